@@ -1,0 +1,1 @@
+// Blocks of bytes, and one block of a table of blocks.

@@ -1,0 +1,1 @@
+// GF(256), polynomial 0x11D.
