@@ -1,7 +1,7 @@
 -- Document 01, "Field and code": "Decoding is given a set of nodes and uses its k lowest members". The bytes of any node from those of k nodes,
 -- by interpolation: node j has the point j − 1, and `scale j` times its byte is the value there of one polynomial of degree below k.
 -- That these are the only bytes of a codeword that agrees with the k nodes is proved (proofs/Recover.antt). Assumes nothing.
-use mathlib.Core.Bool.{Bool, true, false, cond, _&&_}
+use mathlib.Core.Bool.{Bool, true, false, cond, _&&_, _||_, not}
 use mathlib.Core.List.{List, [], _∷_}
 use Prim.Native.Nat.{ℕ, zero, suc, _-_}
 use lib.Bits.{bitXor}
@@ -22,6 +22,16 @@ has s (suc j) = getD s j false
 -- the nodes that p holds of
 unfoldable pub setOf : (ℕ → Bool) → NodeSet
 setOf p = listOf 18 (λ i. p (suc i))
+
+abbrev pub noNodes : NodeSet
+noNodes = setOf (λ j. false)
+
+-- the set with node j, and without it
+abbrev pub including : ℕ → NodeSet → NodeSet
+including j s = setOf (λ l. eqb l j || has s l)
+
+abbrev pub excluding : ℕ → NodeSet → NodeSet
+excluding j s = setOf (λ l. not (eqb l j) && has s l)
 
 -- the members in rising order, the first place being that of node j
 unfoldable pub membersFrom : ℕ → NodeSet → List ℕ

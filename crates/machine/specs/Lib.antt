@@ -1,0 +1,6 @@
+pub mod Stripe
+pub mod Writing
+pub mod Rebuild
+pub mod Calls
+pub mod History
+pub mod Guarantee

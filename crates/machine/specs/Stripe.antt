@@ -1,0 +1,133 @@
+-- Document 01, "Records" and "Numbers of the answers": a stripe, what a call is lent of it, and answers. Assumes nothing.
+use mathlib.Core.Bool.{Bool, true, false, cond, _&&_, _||_, not}
+use mathlib.Core.List.{List, [], _∷_, map}
+use Prim.Native.Nat.{ℕ, zero, suc, _*_}
+use lib.Dec.{eqb, leb}
+use lib.ListN.{length, getD, set, replicate}
+use Rattle.records.specs.declared.Sizes.{Sizes}
+use Rattle.records.specs.declared.Refusal.{Refusal}
+use Rattle.records.specs.Sizes.{numberOf}
+use Rattle.records.specs.Node.{Node, freshNode, failedNode, nodeWithin}
+use Rattle.records.specs.Client.{Client, freshClient}
+
+-- the n node records, the m client records, and the three tables: n blocks, the spare of the same size, B bytes per client
+pub record Stripe : Type 0 where
+  pub nodes : List Node
+  pub clients : List Client
+  pub blocks : List ℕ
+  pub spare : List ℕ
+  pub differences : List ℕ
+
+-- "Fresh: zero blocks and counts, NORM, UNL, empty lists"; "with any bytes in the spare and the differences"
+abbrev pub fresh : Sizes → List ℕ → List ℕ → Stripe
+fresh z spare differences =
+    record { nodes = replicate (z .n) freshNode; clients = replicate (z .m) freshClient; blocks = replicate (z .n * z .b) 0; spare = spare; differences = differences }
+
+-- element j of a list, j from 1: outside the list a node counts as failed, a client as fresh
+unfoldable pub nodeAt : List Node → ℕ → Node
+nodeAt nodes zero = failedNode
+nodeAt nodes (suc j) = getD nodes j failedNode
+
+unfoldable pub clientAt : List Client → ℕ → Client
+clientAt clients zero = freshClient
+clientAt clients (suc c) = getD clients c freshClient
+
+-- the list with another element j
+unfoldable pub setAt : {A : Type 0} → List A → ℕ → A → List A
+setAt l zero x = l
+setAt l (suc j) x = set l j x
+
+-- what a call is answered; the first lines are the accepted ones
+pub data Answer : Type 0 where
+  Accepted : Answer
+  -- a read, with the block shown
+  Shown : List ℕ → Answer
+  -- an add, and the add that completes its write
+  Added Done : Answer
+  -- a check
+  CheckInit CheckGc NoChange : Answer
+  -- the nth settle
+  Rebuilt : Answer
+  Refused : Refusal → Answer
+
+-- "the answer number (0 if accepted)"
+abbrev pub number : Answer → ℕ
+number Accepted = 0
+number (Shown block) = 0
+number Added = 0
+number Done = 0
+number CheckInit = 0
+number CheckGc = 0
+number NoChange = 0
+number Rebuilt = 0
+number (Refused why) = numberOf why
+
+-- the answer, and what was lent as the call leaves it
+pub record Outcome (S : Type 0) : Type 0 where
+  pub answer : Answer
+  pub after : S
+
+module _ {S : Type 0} where
+  abbrev pub answered : Answer → S → Outcome S
+  answered a s = record { answer = a; after = s }
+
+  abbrev pub refused : Refusal → S → Outcome S
+  refused why s = answered (Refused why) s
+
+  -- where the test holds the call is refused and leaves all unchanged. "The lowest applicable number wins": tests stand in the order of their numbers
+  unfoldable pub guard : Bool → Refusal → S → Outcome S → Outcome S
+  guard test why s rest = cond test (refused why s) rest
+
+-- what a call at one node is lent: the records of the node and of the client, the blocks, the differences
+pub record Local : Type 0 where
+  pub node : Node
+  pub client : Client
+  pub blocks : List ℕ
+  pub differences : List ℕ
+
+-- what a call on the whole stripe is lent: all node records, the record of the client, the blocks, the spare
+pub record Whole : Type 0 where
+  pub nodes : List Node
+  pub client : Client
+  pub blocks : List ℕ
+  pub spare : List ℕ
+
+-- the call at node j by client c; and the call by client c on the whole stripe
+abbrev pub atNode : ℕ → ℕ → Stripe → Local
+atNode j c s = record { node = nodeAt (s .nodes) j; client = clientAt (s .clients) c; blocks = s .blocks; differences = s .differences }
+
+abbrev pub putNode : ℕ → ℕ → Local → Stripe → Stripe
+putNode j c l s =
+    record { nodes = setAt (s .nodes) j (l .node); clients = setAt (s .clients) c (l .client); blocks = l .blocks; spare = s .spare; differences = l .differences }
+
+abbrev pub onNode : ℕ → ℕ → (Local → Outcome Local) → Stripe → Outcome Stripe
+onNode j c call s = let o = call (atNode j c s) in answered (o .answer) (putNode j c (o .after) s)
+
+abbrev pub whole : ℕ → Stripe → Whole
+whole c s = record { nodes = s .nodes; client = clientAt (s .clients) c; blocks = s .blocks; spare = s .spare }
+
+abbrev pub putWhole : ℕ → Whole → Stripe → Stripe
+putWhole c w s =
+    record { nodes = w .nodes; clients = setAt (s .clients) c (w .client); blocks = w .blocks; spare = w .spare; differences = s .differences }
+
+abbrev pub onWhole : ℕ → (Whole → Outcome Whole) → Stripe → Outcome Stripe
+onWhole c call s = let o = call (whole c s) in answered (o .answer) (putWhole c (o .after) s)
+
+-- "buffer length": n blocks; B bytes per client
+abbrev pub blocksFit : Sizes → List ℕ → Bool
+blocksFit z t = eqb (length t) (z .n * z .b)
+
+abbrev pub differencesFit : Sizes → List ℕ → Bool
+differencesFit z t = eqb (length t) (z .m * z .b)
+
+-- p holds of each element; of some element
+unfoldable pub everyOf : {A : Type 0} → (A → Bool) → List A → Bool
+everyOf p [] = true
+everyOf p (x ∷ l) = p x && everyOf p l
+
+unfoldable pub someOf : {A : Type 0} → (A → Bool) → List A → Bool
+someOf p [] = false
+someOf p (x ∷ l) = p x || someOf p l
+
+abbrev pub nodesFit : Sizes → List Node → Bool
+nodesFit z nodes = eqb (length nodes) (z .n) && everyOf (nodeWithin z) nodes

@@ -1,0 +1,4 @@
+pub mod Sizes
+pub mod Entries
+pub mod Node
+pub mod Client
