@@ -1,0 +1,6 @@
+pub mod Base
+pub mod EntryLaws
+pub mod Columns
+pub mod Ledger
+pub mod Invariant
+pub mod Frame
