@@ -4,3 +4,6 @@ pub mod Columns
 pub mod Ledger
 pub mod Invariant
 pub mod Frame
+pub mod Bytes
+pub mod View
+pub mod Kept
