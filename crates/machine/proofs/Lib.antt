@@ -7,3 +7,5 @@ pub mod Frame
 pub mod Bytes
 pub mod View
 pub mod Kept
+pub mod Phases
+pub mod Locks
