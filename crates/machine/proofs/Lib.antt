@@ -9,3 +9,5 @@ pub mod View
 pub mod Kept
 pub mod Phases
 pub mod Locks
+pub mod Progress
+pub mod Pick
