@@ -11,3 +11,4 @@ pub mod Phases
 pub mod Locks
 pub mod Progress
 pub mod Pick
+pub mod Write
