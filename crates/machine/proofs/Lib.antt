@@ -12,3 +12,4 @@ pub mod Locks
 pub mod Progress
 pub mod Pick
 pub mod Write
+pub mod Settle
