@@ -7,4 +7,5 @@ pub mod Frame
 pub mod Bytes
 pub mod View
 pub mod Kept
+pub mod Limits
 pub mod Examples
