@@ -1,0 +1,6 @@
+pub mod Ring
+pub mod Sum
+pub mod Degree
+pub mod Factors
+pub mod Symbols
+pub mod Recover
