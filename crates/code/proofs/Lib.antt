@@ -4,3 +4,4 @@ pub mod Degree
 pub mod Factors
 pub mod Symbols
 pub mod Recover
+pub mod NodeSets
