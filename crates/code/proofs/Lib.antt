@@ -4,4 +4,7 @@ pub mod Degree
 pub mod Factors
 pub mod Symbols
 pub mod Recover
+pub mod Invertible
 pub mod NodeSets
+pub mod Sizes
+pub mod Demand2
