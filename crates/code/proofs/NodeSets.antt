@@ -9,6 +9,7 @@ use native.Mathlib.Omega.{arith}
 use lib.ListN.{length, getD, List·getD-eq-default}
 use Rattle.blocks.proofs.Tables.{length-listOf, getD-listOf}
 use Rattle.code.specs.Decode.{NodeSet, has, setOf, membersFrom, size, lowest}
+use Rattle.code.proofs.Sum.{All}
 use Rattle.code.proofs.Recover.{Chosen}
 
 -- ---- a set from a test
@@ -93,7 +94,7 @@ lowest-chosen k s within ks =
     record {
       from = λ q q1 qk. lowest-from s q q1 (omega arith);
       to = λ q q1 qk. within (lowest s q) (lowest-has s q q1 (omega arith));
-      distinct = λ p q p1 pk q1 qk h. differ p q p1 pk q1 qk h (decLt p q);
+      distinct = λ p p1 pk q q1 qk h. differ p q p1 pk q1 qk h (decLt p q);
     }
   where
     differ : (p q : ℕ) → 1 ≤ p → p ≤ k → 1 ≤ q → q ≤ k → p ≢ q → Dec (p < q) → lowest s p ≢ lowest s q
@@ -107,7 +108,7 @@ unfoldable pub count : ℕ → (ℕ → Bool) → ℕ
 count zero p = 0
 count (suc n) p = count n p + cond (p (suc n)) 1 0
 
-count-ext : (n : ℕ) (p r : ℕ → Bool) → ((j : ℕ) → 1 ≤ j → j ≤ n → p j ≡ r j) → count n p ≡ count n r
+count-ext : (n : ℕ) (p r : ℕ → Bool) → All n (λ j. p j ≡ r j) → count n p ≡ count n r
 unfolding count
 count-ext zero p r e = refl
 count-ext (suc n) p r e = rw (count, e (suc n) (omega arith) (omega arith), count-ext n p r (λ j l1 ln. e j l1 (omega arith)))
