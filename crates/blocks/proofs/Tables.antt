@@ -1,14 +1,14 @@
 -- A list by its entries (`listOf`), and a table of blocks by its bytes (`table`, `byteAt`). Assumes nothing.
 use mathlib.Core.Path.{_≡_, refl, sym, ap, ap₂, _∙_}
 use mathlib.Core.Logic.{_⊎_, inl, inr}
-use mathlib.Core.List.{List, [], _∷_, _++_}
+use mathlib.Core.List.{List, [], _∷_, _++_, append-nil, append-assoc}
 use Prim.Native.Nat.{ℕ, zero, suc, _+_, _-_, _*_, _/_, _%_, _≤_, _<_}
-use native.Mathlib.Nat.{zero-mul, mul-zero, suc-mul, le-of-suc-le-suc, eq-or-lt-of-le, eq-zero-or-pos, div-lt-iff-lt-mul, div-add-mod', mod-lt}
+use native.Mathlib.Nat.{add-zero, add-suc, zero-mul, mul-zero, suc-mul, le-of-suc-le-suc, eq-or-lt-of-le, eq-zero-or-pos, div-lt-iff-lt-mul, div-add-mod', mod-lt}
 use native.Mathlib.Omega.{arith}
 use lib.Arith.{digits-lt}
-use lib.ListN.{length, getD, length-append, List·getD-append}
-use lib.Seq.{getD-at, getD-append-add, ext-getD}
-use Rattle.blocks.specs.Blocks.{byteAt, listOf, table}
+use lib.ListN.{length, getD, drop, length-append, List·getD-append}
+use lib.Seq.{getD-at, getD-append-add, getD-take, getD-drop, ext-getD}
+use Rattle.blocks.specs.Blocks.{part, block, byteAt, listOf, table}
 
 -- ---- a list by its entries
 
@@ -79,3 +79,19 @@ table-cong zero b f g e = refl
 table-cong (suc n) b f g e =
     ap₂ _++_ (table-cong n b f g (λ j p l1 ln. e j p l1 (omega arith)))
     (listOf-cong b (f (suc n)) (g (suc n)) (λ p. e (suc n) p (omega arith) (omega arith)))
+
+-- a table of its own bytes
+pub table-self : (n b : ℕ) (t : List ℕ) → length t ≡ n * b → table n b (byteAt b t) ≡ t
+table-self n b t l = table-ext n b (table n b (byteAt b t)) t (length-table n b (byteAt b t)) l (byteAt-table n b (byteAt b t))
+
+-- the first m blocks, and the n after them
+pub table-append : (m n b : ℕ) (f : ℕ → ℕ → ℕ) → table (m + n) b f ≡ table m b f ++ table n b (λ j. f (m + j))
+unfolding table
+table-append m zero b f = rw (add-zero m) (sym (append-nil (table m b f)))
+table-append m (suc n) b f =
+    rw (add-suc m n, table, table-append m n b f) (append-assoc (table m b f) (table n b (λ j. f (m + j))) (listOf b (f (suc (m + n)))))
+
+-- block j has the bytes of the table there
+pub getD-block : (b j p : ℕ) (t : List ℕ) → p < b → getD (block b j t) p 0 ≡ byteAt b t j p
+unfolding part byteAt
+getD-block b j p t l = getD-take b (drop ((j - 1) * b) t) p 0 l ∙ getD-drop ((j - 1) * b) t p 0

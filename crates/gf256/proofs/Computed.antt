@@ -13,22 +13,22 @@ unfoldable pub every : ℕ → (ℕ → Bool) → Bool
 every zero p = true
 every (suc n) p = p n && every n p
 
-left : (a b : Bool) → (a && b) ≡ true → a ≡ true
-left true b e = refl
-left false b e = e
+pub and-left : (a b : Bool) → (a && b) ≡ true → a ≡ true
+and-left true b e = refl
+and-left false b e = e
 
-right : (a b : Bool) → (a && b) ≡ true → b ≡ true
-right true b e = e
-right false b e = cc
+pub and-right : (a b : Bool) → (a && b) ≡ true → b ≡ true
+and-right true b e = e
+and-right false b e = cc
 
 pub below : (n : ℕ) (p : ℕ → Bool) → every n p ≡ true → (i : ℕ) → i < n → p i ≡ true
 unfolding every
 below zero p e i l = absurd (omega arith)
 below (suc n) p e i l =
-    at (eq-or-lt-of-le (le-of-suc-le-suc l)) (below n p (right (p n) (every n p) e) i)
+    at (eq-or-lt-of-le (le-of-suc-le-suc l)) (below n p (and-right (p n) (every n p) e) i)
   where
     at : (i ≡ n) ⊎ (i < n) → (i < n → p i ≡ true) → p i ≡ true
-    at (inl q) ih = rw q (left (p n) (every n p) e)
+    at (inl q) ih = rw q (and-left (p n) (every n p) e)
     at (inr l′) ih = ih l′
 
 -- two functions agree below n
