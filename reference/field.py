@@ -38,6 +38,7 @@ def power(a, exponent):
     return result
 
 
+@lru_cache(maxsize=256)
 def inverse(a):
     """a to the 254th: every element but 0 has a**255 = 1."""
     assert a != 0

@@ -92,7 +92,7 @@ def show_returned(call, answer):
     return str(answer.value)
 
 
-def run(lines):
+def run(lines, new_stripe=new_stripe):
     """The output lines for the lines of a script."""
     lines = iter(lines)
     first = next(lines, None)
