@@ -9,7 +9,7 @@ use lib.Dec.{leb, ltb, eqb}
 use borrow.Author.Tests.{ltb-false, leb-true, eqb-true, not-false, eq-eqb, le-ltb}
 use Rattle.blocks.specs.Blocks.{block, byteAt, table, Bytes}
 use Rattle.blocks.proofs.Tables.{byteAt-table, table-cong, table-self, table-append, getD-block}
-use Rattle.gf256.proofs.Computed.{and-left, and-right}
+use Rattle.gf256.proofs.Computed.{never-both, and-left, and-right}
 use Rattle.code.specs.Code.{codeSizes, symbol, codeword, redundant, Codeword}
 use Rattle.code.specs.Calls.{numberOf, encoding, decoding, isIn, someOutside, given}
 use Rattle.code.specs.Decode.{NodeSet, size, invertible, lowest, recovered, recoveredTable}
@@ -92,7 +92,7 @@ or-false false b e = (refl, e)
 -- where no node given is outside, those given are at most n
 is-in-most : (n : ℕ) (xs : List ℕ) (j : ℕ) → someOutside n xs ≡ false → isIn xs j ≡ true → j ≤ n
 unfolding someOutside isIn
-is-in-most n [] j e i = let z : _≡_ {A = ℕ} 0 1 = cc in absurd (omega arith)
+is-in-most n [] j e i = absurd (never-both false i refl)
 is-in-most n (x ∷ xs) j e i =
     let (here, rest) = or-false (not (leb 1 x && leb x n)) (someOutside n xs) e in
     by (eqb x j) refl i (leb-true x n (and-right (leb 1 x) (leb x n) (not-false (leb 1 x && leb x n) here))) (is-in-most n xs j rest)

@@ -7,8 +7,9 @@ use Prim.Native.Nat.{ℕ, zero, suc, _+_, _-_, _≤_, _<_}
 use native.Mathlib.Decide.{decLt}
 use native.Mathlib.Omega.{arith}
 use lib.ListN.{length, getD, List·getD-eq-default}
+use Rattle.gf256.proofs.Computed.{never-both}
 use Rattle.blocks.proofs.Tables.{length-listOf, getD-listOf}
-use Rattle.code.specs.Decode.{invertible, NodeSet, has, setOf, membersFrom, size, lowest}
+use Rattle.code.specs.Decode.{NodeSet, has, setOf, membersFrom, size, lowest, invertible}
 use Rattle.code.proofs.Sum.{All}
 use Rattle.code.proofs.Invertible.{invertible-chosen}
 use Rattle.code.proofs.Recover.{Chosen}
@@ -33,7 +34,7 @@ pub has-within : (s : NodeSet) (j : ℕ) → has s j ≡ true → j ≤ length s
 has-within s j e = by (decLt (length s) j)
   where
     by : Dec (length s < j) → j ≤ length s
-    by (yes l) = let z : _≡_ {A = ℕ} 0 1 = cc (has-past s j l) in absurd (omega arith)
+    by (yes l) = absurd (never-both (has s j) e (has-past s j l))
     by (no n) = omega arith
 
 pub length-setOf : (p : ℕ → Bool) → length (setOf p) ≡ 18
@@ -41,7 +42,7 @@ unfolding setOf
 length-setOf p = length-listOf 18 (λ i. p (suc i))
 
 pub setOf-has : (p : ℕ → Bool) (j : ℕ) → has (setOf p) j ≡ true → p j ≡ true
-setOf-has p zero e = let z : _≡_ {A = ℕ} 0 1 = cc (has-zero (setOf p)) in absurd (omega arith)
+setOf-has p zero e = absurd (never-both (has (setOf p) 0) e (has-zero (setOf p)))
 setOf-has p (suc j) e =
     sym (has-setOf p (suc j) (omega arith) (omega (arith, has-within (setOf p) (suc j) e, length-setOf p))) ∙ e
 
