@@ -13,3 +13,5 @@ pub mod Progress
 pub mod Pick
 pub mod Write
 pub mod Settle
+pub mod Limits
+pub mod Examples
