@@ -4,3 +4,4 @@ pub mod Columns
 pub mod Ledger
 pub mod Invariant
 pub mod Frame
+pub mod Entering
