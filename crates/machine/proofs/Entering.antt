@@ -65,6 +65,10 @@ module _ (O : Ops) where
         begun = G .begun;
       }
 
+  -- every node that sees i has the swap then
+  abbrev pub Everywhere : Ghost → Columns B → ℕ → ℕ → ℕ → Type 0
+  Everywhere G s j i q = (m : ℕ) → isInit (s .op m) ≡ false → Spot O m i → suc q ≤ upd2 (G .inBlock) j i (suc q) m i
+
   -- swap suc q at i, of the given id, enters node j, which has the block b then. h' is what is known then: the swap may be new, or done by this
   pub record Enters (G : Ghost) (h h' : Ledger B) (s : Columns B) (idOf' : ℕ → ℕ → WriteId) (j i q : ℕ) (id : WriteId) (b : B) : Type 0 where
     pub spot : Spot O j i
@@ -82,8 +86,8 @@ module _ (O : Ops) where
     pub own : (m : ℕ) → j ≢ m → m ≤ k → h' .len m ≡ h .len m
     pub done : (y l : ℕ) → h .done y l ≡ true → h' .done y l ≡ true
     pub failed : h .failed ≡ true → h' .failed ≡ true
-    -- what is new: this swap alone, done once all nodes have it
-    pub reported : (y l : ℕ) → h' .done y l ≡ true → (h .done y l ≡ true) ⊎ ((y ≡ i) × (l ≡ suc q) × ((m : ℕ) → isInit (s .op m) ≡ false → Spot O m i → suc q ≤ upd2 (G .inBlock) j i (suc q) m i))
+    -- what is new: this swap alone is done, if it is
+    pub reported : (y l : ℕ) → h' .done y l ≡ true → (h .done y l ≡ true) ⊎ ((y ≡ i) × (l ≡ suc q) × Everywhere G s j i q)
     pub new : (m y l : ℕ) → 1 ≤ l → l ≤ h' .len y → (l ≤ h .len y) ⊎ (isOldIn (idOf' y l) (s .entries m) ≡ false)
 
   module _ (L : Laws O) {G : Ghost} {h h' : Ledger B} {s : Columns B} (I : Inv O G h s) {idOf' : ℕ → ℕ → WriteId} {j i q : ℕ} {id : WriteId} {b : B} (T : Takes G s j) (E : Enters G h h' s idOf' j i q id b) where
@@ -119,7 +123,7 @@ module _ (O : Ops) where
     least : (m : ℕ) → isInit (s .op m) ≡ false → (y l : ℕ) → Spot O m y → h' .done y l ≡ true → (h .done y l ≡ true) ⊎ (l ≤ G' .inBlock m y)
     least m a y l p d = go (E .reported y l d)
       where
-        go : (h .done y l ≡ true) ⊎ ((y ≡ i) × (l ≡ suc q) × ((m : ℕ) → isInit (s .op m) ≡ false → Spot O m i → suc q ≤ G' .inBlock m i)) → (h .done y l ≡ true) ⊎ (l ≤ G' .inBlock m y)
+        go : (h .done y l ≡ true) ⊎ ((y ≡ i) × (l ≡ suc q) × Everywhere G s j i q) → (h .done y l ≡ true) ⊎ (l ≤ G' .inBlock m y)
         go (inl e) = inl e
         go (inr (e, f, all)) = inr (rw (e, f) (all m a (rw e at p)))
 
@@ -246,7 +250,7 @@ module _ (O : Ops) where
         H
       where
         still : {A : Type 0} (p : ℕ) → (w .id .position ≡ i → p ≢ q) → h .done (w .id .position) (suc p) ≡ false →
-            (h .done (w .id .position) (suc p) ≡ true) ⊎ ((w .id .position ≡ i) × (suc p ≡ suc q) × ((m : ℕ) → isInit (s .op m) ≡ false → Spot O m i → suc q ≤ G' .inBlock m i)) → A
+            (h .done (w .id .position) (suc p) ≡ true) ⊎ ((w .id .position ≡ i) × (suc p ≡ suc q) × Everywhere G s j i q) → A
         still p another t (inl f) = clash f t
         still p another t (inr (f, g, all)) = absurd (another f (omega arith))
 

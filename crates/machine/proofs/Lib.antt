@@ -4,4 +4,6 @@ pub mod Columns
 pub mod Ledger
 pub mod Invariant
 pub mod Frame
+pub mod Sets
 pub mod Entering
+pub mod Swap
