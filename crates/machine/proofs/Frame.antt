@@ -252,6 +252,22 @@ module _ (O : Ops) where
   pub of-live : {G : Ghost} {h : Ledger B} {j : ℕ} {b : B} {e : ℕ} → Live O G h j b e → IsNode O j
   of-live v = record { low = v .low; high = v .high }
 
+  -- a swap that is listed at a node is one of those counted there
+  pub counted : {G : Ghost} {h : Ledger B} {s : Columns B} → Inv O G h s → (j i l : ℕ) → 1 ≤ l → l ≤ h .len i → isListed (G .idOf i l) (s .entries j) ≡ true → Spot O j i × (l ≤ G .inList j i)
+  counted {G} {h} {s} I j i l low high e = (subst (Spot O j) position (I .node j .list .mine (G .idOf i l) e), subst (λ t. t ≤ G .inList j i) same within)
+    where
+      position : G .idOf i l .position ≡ i
+      position = I .ids .idOf-pos i l low high
+
+      a : Among O G (G .inList j (G .idOf i l .position)) (G .idOf i l)
+      a = I .node j .list .listed (G .idOf i l) e
+
+      within : a .l ≤ G .inList j i
+      within = subst (λ y. a .l ≤ G .inList j y) position (a .high)
+
+      same : a .l ≡ l
+      same = I .ids .idOf-inj i (a .l) l (a .low) (le-trans within (I .node j .list .short i)) low high (subst (λ y. G .idOf y (a .l) ≡ G .idOf i l) position (a .is))
+
   -- a client between its pick and its finish has every node that is not INIT at L1
   pub writer-holds : (G : Ghost) (c j : ℕ) (p : Rebuild) (o : Opmode) (l : Lock) (e : ℕ) → PhaseOk O G c p j o l e → writes p ≡ true → isInit o ≡ false → l ≡ L1 c
   writer-holds G c j NoRebuild o l e v w i = clash w refl

@@ -7,3 +7,4 @@ pub mod Frame
 pub mod Sets
 pub mod Entering
 pub mod Swap
+pub mod Add

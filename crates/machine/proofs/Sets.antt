@@ -3,25 +3,31 @@ use mathlib.Core.Path.{_≡_, refl, sym, _∙_}
 use mathlib.Core.Logic.{_≢_}
 use mathlib.Core.Bool.{Bool, true, false, _&&_, _||_, not}
 use Prim.Native.Nat.{ℕ, _≤_}
+use native.Mathlib.Nat.{le-trans}
 use lib.Dec.{eqb}
 use borrow.Author.Tests.{eq-eqb, ne-eqb}
-use Rattle.code.specs.Decode.{NodeSet, has, noNodes, including, excluding}
+use Rattle.code.specs.Decode.{NodeSet, has, setOf, noNodes, including, excluding}
 use Rattle.code.proofs.NodeSets.{has-setOf}
+use Rattle.machine.proofs.Columns.{Ops}
+use Rattle.machine.proofs.Invariant.{Laws, IsNode}
 
-module _ (j : ℕ) (low : 1 ≤ j) (high : j ≤ 18) where
+module _ {O : Ops} (L : Laws O) {j : ℕ} (r : IsNode O j) where
+  pub has-node : (p : ℕ → Bool) → has (setOf p) j ≡ p j
+  has-node p = has-setOf p j (r .low) (le-trans (r .high) (L .n-18))
+
   pub no-nodes : has noNodes j ≡ false
-  no-nodes = has-setOf (λ l. false) j low high
+  no-nodes = has-node (λ l. false)
 
   module _ (s : NodeSet) where
     pub including-same : has (including j s) j ≡ true
-    including-same = has-setOf (λ l. eqb l j || has s l) j low high ∙ rw (eq-eqb j j refl)
+    including-same = has-node (λ l. eqb l j || has s l) ∙ rw (eq-eqb j j refl)
 
     pub excluding-same : has (excluding j s) j ≡ false
-    excluding-same = has-setOf (λ l. not (eqb l j) && has s l) j low high ∙ rw (eq-eqb j j refl)
+    excluding-same = has-node (λ l. not (eqb l j) && has s l) ∙ rw (eq-eqb j j refl)
 
     -- another node i comes or goes
     pub including-other : (i : ℕ) → i ≢ j → has (including i s) j ≡ has s j
-    including-other i d = has-setOf (λ l. eqb l i || has s l) j low high ∙ rw (ne-eqb j i (λ e. d (sym e)))
+    including-other i d = has-node (λ l. eqb l i || has s l) ∙ rw (ne-eqb j i (λ e. d (sym e)))
 
     pub excluding-other : (i : ℕ) → i ≢ j → has (excluding i s) j ≡ has s j
-    excluding-other i d = has-setOf (λ l. not (eqb l i) && has s l) j low high ∙ rw (ne-eqb j i (λ e. d (sym e)))
+    excluding-other i d = has-node (λ l. not (eqb l i) && has s l) ∙ rw (ne-eqb j i (λ e. d (sym e)))

@@ -37,7 +37,7 @@ module _ (O : Ops) where
       (setNexts (upd (s .next) c (suc (s .next c)))
       (setHands (upd (s .hand) c (some (newWrite s c i))) (setDifferences (upd (s .difference) c (diff v (s .block i))) s))))
 
-  module _ (L : Laws O) (G : Ghost) (h : Ledger B) (s : Columns B) (I : Inv O G h s) (c i : ℕ) (v : B) (P : IsPos O i) (norm : isNorm (s .op i) ≡ true) (unl : isUnl (s .lock i) ≡ true) where
+  module _ (L : Laws O) {G : Ghost} {h : Ledger B} {s : Columns B} (I : Inv O G h s) (c i : ℕ) (v : B) (P : IsPos O i) (norm : isNorm (s .op i) ≡ true) (unl : isUnl (s .lock i) ≡ true) where
     -- it is swap suc q at i
     abbrev q : ℕ
     q = h .len i
@@ -173,9 +173,8 @@ module _ (O : Ops) where
 
         not-in : (j : ℕ) → k < j → isNorm (s .op j) ≡ true → has (including i noNodes) j ≡ false
         not-in j a b =
-            let r = I .node j .live (norm-live (s .op j) b) in
-            let m : j ≤ 18 = le-trans (r .high) (L .n-18) in
-            including-other j (r .low) m noNodes i (apart j a) ∙ no-nodes j (r .low) m
+            let r = of-live O (I .node j .live (norm-live (s .op j) b)) in
+            including-other L r noNodes i (apart j a) ∙ no-nodes L r
 
         old-block : s .block i ≡ h .val i q
         old-block = I .node i .live live .block ∙ code-data O i (at O h (G .inBlock i)) (P .high) ∙ ap (h .val i) (unwritten .own (P .high))
@@ -216,4 +215,4 @@ module _ (O : Ops) where
         ids hands finisheds
 
   pub swap-good : Laws O → (h : Ledger B) (s : Columns B) (c i : ℕ) (v : B) → Good O h s → IsPos O i → isNorm (s .op i) ≡ true → isUnl (s .lock i) ≡ true → Good O (noteSwap h c i v) (swapped s c i v)
-  swap-good L h s c i v g P norm unl = record { ghost = _; inv = swap-inv L (g .ghost) h s (g .inv) c i v P norm unl }
+  swap-good L h s c i v g P norm unl = record { ghost = _; inv = swap-inv L (g .inv) c i v P norm unl }
