@@ -21,7 +21,7 @@ use Rattle.machine.proofs.Ledger.{Ledger, Swapped, IsPos, noteDone, upd
 use Rattle.machine.proofs.Invariant.{Ghost, Laws, code, Spot, at, IdsOk, Own, HandOk, FinishedOk, Inv, Good}
 use Rattle.machine.proofs.Frame.{of-live, counted, norm-live, upd2-same, upd2-pos, upd2-ind, code-red}
 use Rattle.machine.proofs.Sets.{including-same, including-other}
-use Rattle.machine.proofs.Entering.{Takes, all-norm, all-unwritten, Everywhere, Enters, entered, entered-hand, entered-inv}
+use Rattle.machine.proofs.Entering.{Takes, all-norm, all-unwritten, Everywhere, DoneThen, Enters, entered, entered-hand, entered-inv}
 
 module _ (O : Ops) where
   open Ops O using (B, k, n, diff, mulAdd, parity)
@@ -108,8 +108,8 @@ module _ (O : Ops) where
         same : (y : ℕ) → upd was i (h .val i (suc q)) y ≡ h .val y (upd (G .inBlock j) i (suc q) y)
         same = upd-ind (λ y t. upd was i (h .val i (suc q)) y ≡ h .val y t) (G .inBlock j) i (suc q) (upd-same was i (h .val i (suc q))) (λ y d. upd-other was i (h .val i (suc q)) y d)
 
-    ---- dn: what is done then, the same or this write besides
-    module _ (dn : ℕ → ℕ → Bool) (more : (y l : ℕ) → h .done y l ≡ true → dn y l ≡ true) (what : (y l : ℕ) → dn y l ≡ true → (h .done y l ≡ true) ⊎ ((y ≡ i) × (l ≡ suc q) × Everywhere O G s j i q)) where
+    ---- after an add dn is done: the same, or this write besides
+    module _ {dn : ℕ → ℕ → Bool} (D : DoneThen O G h s j i q dn) where
       abbrev h' : Ledger B
       h' = record { len = h .len; val = h .val; done = dn; last = h .last; stale = h .stale; settles = h .settles; failed = h .failed }
 
@@ -127,9 +127,8 @@ module _ (O : Ops) where
             idOf = λ y l a. refl;
             len = λ y. omega arith;
             own = λ m d a. refl;
-            done = more;
             failed = λ e. e;
-            reported = what;
+            done = D;
             new = λ m y l a b. inl b;
           }
 
@@ -139,8 +138,8 @@ module _ (O : Ops) where
             idOf-pos = I .ids .idOf-pos;
             idOf-inj = I .ids .idOf-inj;
             idOf-old = I .ids .idOf-old;
-            zero-done = λ y. more y 0 (I .ids .zero-done y);
-            done-len = λ y l e. done-len y l (what y l e);
+            zero-done = λ y. D .still y 0 (I .ids .zero-done y);
+            done-len = λ y l e. done-len y l (D .only y l e);
             no-stale = I .ids .no-stale;
           }
         where
@@ -153,7 +152,7 @@ module _ (O : Ops) where
       others d ne u e = entered-hand O L I takes enters d (s .difference d) u refl (λ p a b t f g. ne (sym (own .client) ∙ ap (λ (x : WriteId). x .client) (own .is ∙ (λ z. G .idOf (sym f z) (suc (sym g z))) ∙ sym b) ∙ t)) (I .hand d u e)
 
       finisheds : (d : ℕ) → FinishedOk O G' h' d (s .next d) (s .finished d)
-      finisheds d = record { done = λ x e y l a b f. more y l (I .finished d .done x e y l a b f); client = I .finished d .client; number = I .finished d .number }
+      finisheds d = record { done = λ x e y l a b f. D .still y l (I .finished d .done x e y l a b f); client = I .finished d .client; number = I .finished d .number }
 
     done-other : (m : ℕ) → isInit (s .op m) ≡ false → j ≢ m → has (including j (w .done)) m ≡ has (w .done) m
     done-other m a = including-other L (of-live O (I .node m .live a)) (w .done) j
@@ -186,15 +185,12 @@ module _ (O : Ops) where
         }
 
     more-inv : Inv O G' h (added s c j w)
-    more-inv = entered-inv O L I takes (enters (h .done) same as-before) (s .next) (upd (s .hand) c (some w')) (s .difference) (s .finished) (ids (h .done) same as-before)
-        (upd-ind (λ d t. (u : Write) → t ≡ some u → HandOk O G' h (s .op) d (s .difference d) u) (s .hand) c (some w') (λ u e. subst (HandOk O G' h (s .op) c (s .difference c)) (some-same e) mine) (others (h .done) same as-before))
-        (finisheds (h .done) same as-before)
+    more-inv = entered-inv O L I takes (enters as-before) (s .next) (upd (s .hand) c (some w')) (s .difference) (s .finished) (ids as-before)
+        (upd-ind (λ d t. (u : Write) → t ≡ some u → HandOk O G' h (s .op) d (s .difference d) u) (s .hand) c (some w') (λ u e. subst (HandOk O G' h (s .op) c (s .difference c)) (some-same e) mine) (others as-before))
+        (finisheds as-before)
       where
-        same : (y l : ℕ) → h .done y l ≡ true → h .done y l ≡ true
-        same y l e = e
-
-        as-before : (y l : ℕ) → h .done y l ≡ true → (h .done y l ≡ true) ⊎ ((y ≡ i) × (l ≡ suc q) × Everywhere O G s j i q)
-        as-before y l e = inl e
+        as-before : DoneThen O G h s j i q (h .done)
+        as-before = record { still = λ y l e. e; only = λ y l e. inl e }
 
     ---- Done: the write is in every node
     module _ (complete : (m : ℕ) → k < m → m ≤ n → has (including j (w .done)) m ≡ true) where
@@ -211,13 +207,12 @@ module _ (O : Ops) where
       abbrev dn : ℕ → ℕ → Bool
       dn = upd2 (h .done) i (suc q) true
 
-      more : (y l : ℕ) → h .done y l ≡ true → dn y l ≡ true
-      more = upd2-ind (λ y l t. h .done y l ≡ true → t ≡ true) (h .done) i (suc q) true (λ e. refl) (λ y l d e. e)
-
-      what : (y l : ℕ) → dn y l ≡ true → (h .done y l ≡ true) ⊎ ((y ≡ i) × (l ≡ suc q) × Everywhere O G s j i q)
-      what =
-          upd2-ind (λ y l t. t ≡ true → (h .done y l ≡ true) ⊎ ((y ≡ i) × (l ≡ suc q) × Everywhere O G s j i q)) (h .done) i (suc q) true (λ e. inr (refl, refl, everywhere))
-          (λ y l d e. inl e)
+      besides : DoneThen O G h s j i q dn
+      besides =
+          record {
+            still = upd2-ind (λ y l t. h .done y l ≡ true → t ≡ true) (h .done) i (suc q) true (λ e. refl) (λ y l d e. e);
+            only = upd2-ind (λ y l t. t ≡ true → (h .done y l ≡ true) ⊎ ((y ≡ i) × (l ≡ suc q) × Everywhere O G s j i q)) (h .done) i (suc q) true (λ e. inr (refl, refl, everywhere)) (λ y l d e. inl e);
+          }
 
       -- an id of the longer finished list
       finished-cases : (P : WriteId → Type 0) → P (w .id) → ((x : WriteId) → isIn x (s .finished c) ≡ true → P x) → (x : WriteId) → isIn x (s .finished c ++ (w .id ∷ [])) ≡ true → P x
@@ -227,10 +222,10 @@ module _ (O : Ops) where
           go (inl t) = f x t
           go (inr t) = subst P (same-id (w .id) x t) p
 
-      mine-finished : FinishedOk O G' (h' dn more what) c (s .next c) (s .finished c ++ (w .id ∷ []))
+      mine-finished : FinishedOk O G' (h' besides) c (s .next c) (s .finished c ++ (w .id ∷ []))
       mine-finished =
           record {
-            done = finished-cases (λ x. (y l : ℕ) → 1 ≤ l → l ≤ h .len y → G .idOf y l ≡ x → dn y l ≡ true) done (λ x e y l a b t. more y l (I .finished c .done x e y l a b t));
+            done = finished-cases (λ x. (y l : ℕ) → 1 ≤ l → l ≤ h .len y → G .idOf y l ≡ x → dn y l ≡ true) done (λ x e y l a b t. besides .still y l (I .finished c .done x e y l a b t));
             client = finished-cases (λ x. x .client ≡ c) (own .client) (I .finished c .client);
             number = finished-cases (λ x. x .number .0 < s .next c) (rw (← (own .is), own .client) at (I .ids .idOf-old i (suc q) (omega arith) (own .high))) (I .finished c .number);
           }
@@ -242,9 +237,9 @@ module _ (O : Ops) where
               (λ z. dn (yi z) (lq z)) ∙ upd2-same (h .done) i (suc q) true
 
       done-inv : Inv O G' (noteDone h (some (record { pos = i; place = suc q }))) (addedLast s c j w)
-      done-inv = entered-inv O L I takes (enters dn more what) (s .next) (upd (s .hand) c none) (s .difference) (upd (s .finished) c (s .finished c ++ (w .id ∷ []))) (ids dn more what)
-          (upd-ind (λ d t. (u : Write) → t ≡ some u → HandOk O G' (h' dn more what) (s .op) d (s .difference d) u) (s .hand) c none (λ u e. not-some e) (others dn more what))
-          (upd-ind (λ d t. FinishedOk O G' (h' dn more what) d (s .next d) t) (s .finished) c (s .finished c ++ (w .id ∷ [])) mine-finished (λ d e. finisheds dn more what d))
+      done-inv = entered-inv O L I takes (enters besides) (s .next) (upd (s .hand) c none) (s .difference) (upd (s .finished) c (s .finished c ++ (w .id ∷ []))) (ids besides)
+          (upd-ind (λ d t. (u : Write) → t ≡ some u → HandOk O G' (h' besides) (s .op) d (s .difference d) u) (s .hand) c none (λ u e. not-some e) (others besides))
+          (upd-ind (λ d t. FinishedOk O G' (h' besides) d (s .next d) t) (s .finished) c (s .finished c ++ (w .id ∷ [])) mine-finished (λ d e. finisheds besides d))
 
   pub add-more-good : Laws O → (h : Ledger B) (s : Columns B) (c j : ℕ) (w : Write) → Good O h s → MayAdd s c j w → Good O h (added s c j w)
   add-more-good L h s c j w g M = record { ghost = _; inv = more-inv L (g .inv) M }

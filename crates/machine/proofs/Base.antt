@@ -14,7 +14,11 @@ pub bool-cases : (b : Bool) → (b ≡ true) ⊎ (b ≡ false)
 bool-cases true = inl refl
 bool-cases false = inr refl
 
--- what cannot pass is not passed
+-- a test that cannot fail is passed, and one that cannot be passed fails
+pub is-true : (b : Bool) → (b ≡ false → b ≡ true) → b ≡ true
+is-true true f = refl
+is-true false f = f refl
+
 pub is-false : (b : Bool) → (b ≡ true → b ≡ false) → b ≡ false
 is-false true f = f refl
 is-false false f = refl

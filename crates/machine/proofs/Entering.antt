@@ -69,6 +69,11 @@ module _ (O : Ops) where
   abbrev pub Everywhere : Ghost → Columns B → ℕ → ℕ → ℕ → Type 0
   Everywhere G s j i q = (m : ℕ) → isInit (s .op m) ≡ false → Spot O m i → suc q ≤ upd2 (G .inBlock) j i (suc q) m i
 
+  -- dn is what is done then: what was, and perhaps this swap
+  pub record DoneThen (G : Ghost) (h : Ledger B) (s : Columns B) (j i q : ℕ) (dn : ℕ → ℕ → Bool) : Type 0 where
+    pub still : (y l : ℕ) → h .done y l ≡ true → dn y l ≡ true
+    pub only : (y l : ℕ) → dn y l ≡ true → (h .done y l ≡ true) ⊎ ((y ≡ i) × (l ≡ suc q) × Everywhere G s j i q)
+
   -- swap suc q at i, of the given id, enters node j, which has the block b then. h' is what is known then: the swap may be new, or done by this
   pub record Enters (G : Ghost) (h h' : Ledger B) (s : Columns B) (idOf' : ℕ → ℕ → WriteId) (j i q : ℕ) (id : WriteId) (b : B) : Type 0 where
     pub spot : Spot O j i
@@ -84,10 +89,9 @@ module _ (O : Ops) where
     pub idOf : (y l : ℕ) → l ≤ h .len y → idOf' y l ≡ G .idOf y l
     pub len : (y : ℕ) → h .len y ≤ h' .len y
     pub own : (m : ℕ) → j ≢ m → m ≤ k → h' .len m ≡ h .len m
-    pub done : (y l : ℕ) → h .done y l ≡ true → h' .done y l ≡ true
     pub failed : h .failed ≡ true → h' .failed ≡ true
-    -- what is new: this swap alone is done, if it is
-    pub reported : (y l : ℕ) → h' .done y l ≡ true → (h .done y l ≡ true) ⊎ ((y ≡ i) × (l ≡ suc q) × Everywhere G s j i q)
+    -- what is new
+    pub done : DoneThen G h s j i q (h' .done)
     pub new : (m y l : ℕ) → 1 ≤ l → l ≤ h' .len y → (l ≤ h .len y) ⊎ (isOldIn (idOf' y l) (s .entries m) ≡ false)
 
   module _ (L : Laws O) {G : Ghost} {h h' : Ledger B} {s : Columns B} (I : Inv O G h s) {idOf' : ℕ → ℕ → WriteId} {j i q : ℕ} {id : WriteId} {b : B} (T : Takes G s j) (E : Enters G h h' s idOf' j i q id b) where
@@ -121,7 +125,7 @@ module _ (O : Ops) where
 
     -- what is done is in every node
     least : (m : ℕ) → isInit (s .op m) ≡ false → (y l : ℕ) → Spot O m y → h' .done y l ≡ true → (h .done y l ≡ true) ⊎ (l ≤ G' .inBlock m y)
-    least m a y l p d = go (E .reported y l d)
+    least m a y l p d = go (E .done .only y l d)
       where
         go : (h .done y l ≡ true) ⊎ ((y ≡ i) × (l ≡ suc q) × Everywhere G s j i q) → (h .done y l ≡ true) ⊎ (l ≤ G' .inBlock m y)
         go (inl e) = inl e
@@ -142,7 +146,7 @@ module _ (O : Ops) where
           idOf = E .idOf;
           len = E .len;
           own = E .own m d;
-          done = E .done;
+          done = E .done .still;
           least = λ a y l p t. rw (← (same (G .inBlock) y)) (least m a y l p t);
           new = E .new m;
           failed = E .failed;
@@ -167,7 +171,7 @@ module _ (O : Ops) where
         was = record { idOf = idOf'; base = G .base; inBlock = G .inBlock; inList = G .inList; cut = G .cut; isSettled = G .isSettled; begun = G .begun }
 
         v : ListOk O was h' j es
-        v = list-frame O G was h h' j es (λ y. refl) (E .idOf) (E .len) (E .done) (E .new j) (I .node j .list)
+        v = list-frame O G was h h' j es (λ y. refl) (E .idOf) (E .len) (E .done .still) (E .new j) (I .node j .list)
 
         listed : (x : WriteId) → (isListed x es ≡ true) ⊎ (sameId id x ≡ true) → Among O G' (G' .inList j (x .position)) x
         listed x (inl e) = let a = v .listed x e in record { l = a .l; low = a .low; high = le-trans (a .high) (list-grows j (x .position)); is = a .is }
@@ -241,8 +245,8 @@ module _ (O : Ops) where
           val = E .val;
           idOf = E .idOf;
           len = E .len;
-          done = E .done;
-          still = λ e o p a c t. is-false (h' .done (w .id .position) (suc p)) (λ f. still p (another p a c (o .client)) t (E .reported (w .id .position) (suc p) f));
+          done = E .done .still;
+          still = λ e o p a c t. is-false (h' .done (w .id .position) (suc p)) (λ f. still p (another p a c (o .client)) t (E .done .only (w .id .position) (suc p) f));
           last = last;
           in-done = λ m p a c f g r t. le-trans (t c f) (block-grows m (w .id .position));
           not-done = λ m p a c f g r v t. not-done m p (another p g r v) (t c f);

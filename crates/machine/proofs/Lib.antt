@@ -8,3 +8,5 @@ pub mod Sets
 pub mod Entering
 pub mod Swap
 pub mod Add
+pub mod Hands
+pub mod Sweep

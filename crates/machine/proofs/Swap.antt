@@ -110,9 +110,8 @@ module _ (O : Ops) where
           idOf = old-place (G .idOf) id;
           len = len-grows;
           own = λ m d a. upd-other (h .len) i (suc q) m d;
-          done = λ y l e. e;
           failed = λ e. e;
-          reported = λ y l e. inl e;
+          done = record { still = λ y l e. e; only = λ y l e. inl e };
           new = λ m y l a b. place-ind (λ y l. (l ≤ h .len y) ⊎ (isOldIn (idOf' y l) (s .entries m) ≡ false)) (h .len) i (inr (rw (upd2-same (G .idOf) i (suc q) id) (not-old m))) (λ y l b. inl b) y l b;
         }
       where
