@@ -10,3 +10,4 @@ pub mod Swap
 pub mod Add
 pub mod Hands
 pub mod Sweep
+pub mod Fail

@@ -171,9 +171,7 @@ module _ (O : Ops) where
         apart j a e = let b = P .high in omega arith
 
         not-in : (j : ℕ) → k < j → isNorm (s .op j) ≡ true → has (including i noNodes) j ≡ false
-        not-in j a b =
-            let r = of-live O (I .node j .live (norm-live (s .op j) b)) in
-            including-other L r noNodes i (apart j a) ∙ no-nodes L r
+        not-in j a b = including-other L (of-live O (I .node j .live (norm-live (s .op j) b))) noNodes i (apart j a) ∙ no-nodes j
 
         old-block : s .block i ≡ h .val i q
         old-block = I .node i .live live .block ∙ code-data O i (at O h (G .inBlock i)) (P .high) ∙ ap (h .val i) (unwritten .own (P .high))
