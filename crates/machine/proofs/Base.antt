@@ -59,11 +59,6 @@ pub not-no : (b : Bool) → not b ≡ false → b ≡ true
 not-no true e = refl
 not-no false e = clash refl e
 
--- what holds only if it does not, does not
-pub refute : (b : Bool) → (b ≡ true → b ≡ false) → b ≡ false
-refute true f = f refl
-refute false f = refl
-
 pub same-or : (a b : ℕ) → (a ≡ b) ⊎ (a ≢ b)
 same-or a b = go (eqb a b) refl
   where

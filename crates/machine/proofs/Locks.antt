@@ -14,19 +14,13 @@ use Rattle.records.specs.declared.Lmode.the-variants as Lmode
 use Rattle.records.specs.Node.{isInit, isRecons}
 use Rattle.records.specs.Node as Node
 use Rattle.records.specs.Client.{Write, Rebuild, NoRebuild, Locking, Picking, Writing, Settling, Unlocking}
-use Rattle.machine.proofs.Base.{upd, upd-ind, clash, refute, and-both, cond-ind}
+use Rattle.machine.proofs.Base.{upd, upd-ind, clash, is-false, not-some, and-both, cond-ind}
 use Rattle.machine.proofs.EntryLaws.{in-nil}
 use Rattle.machine.proofs.Columns.{Ops, Lock, Unl, Exp, L0, L1, isUnl, isExp, isL0, isLocked, heldBy, Columns, setLocks, setPhases, setHands, setFinished}
 use Rattle.machine.proofs.Ledger.{Ledger}
 use Rattle.machine.proofs.Invariant.{Ghost, IsNode, HandOk, FinishedOk, wasExp, writes, LockingOk, UnlockingOk, PhaseOk, RebuildOk, Inv, Good}
 use Rattle.machine.proofs.Frame.{of-live, rebuild-quiet}
 use Rattle.machine.proofs.Phases.{held-l1, not-other, unheld, phase-unheld, phase-is}
-
-not-some : {A : Type 0} {w : Write} → none ≡ some w → A
-not-some e = let z : _≡_ {A = ℕ} 0 1 = cc in absurd (no-way z)
-  where
-    no-way : _≡_ {A = ℕ} 0 1 → ⊥
-    no-way z = omega arith
 
 ---- what the calls do to a lock
 -- it becomes EXP if c holds it
@@ -92,7 +86,7 @@ module _ (O : Ops) where
     pub unl : G .begun ≡ true → isInit (s .op j) ≡ false → isUnl l ≡ false
     pub weak : (r : ℕ) → isRecons (s .op r) ≡ true → isL0 l ≡ false
 
-  module _ (G : Ghost) (h : Ledger B) (s : Columns B) (I : Inv O G h s) (c : ℕ) where
+  module _ {G : Ghost} {h : Ledger B} {s : Columns B} (I : Inv O G h s) (c : ℕ) where
     pub relock : (lock' : ℕ → Lock) (p : Rebuild) → ((j : ℕ) → (lock' j ≡ s .lock j) ⊎ Relocked G s c j (lock' j)) →
         ((j : ℕ) → IsNode O j → PhaseOk O G c p j (s .op j) (lock' j) (s .epoch j)) → writes p ≡ false → Inv O G h (relocked c lock' p s)
     relock lock' p change mine quiet =
@@ -167,8 +161,8 @@ module _ (O : Ops) where
       locking j b = go next
         where
           go : LocksNext (s .phase c) old → LockingOk O G c (suc (length old)) (wasExp old) j (s .op j) (s .lock j)
-          go (inl p) = phase-is O G h s I c (Locking old) p j b
-          go (inr p) = let f = phase-is O G h s I c NoRebuild (p .0) j b in record { before = λ t. clash t f; tight = λ t. clash t f; was = λ t. clash t f }
+          go (inl p) = phase-is O I c p j b
+          go (inr p) = let f = phase-is O I c (p .0) j b in record { before = λ t. clash t f; tight = λ t. clash t f; was = λ t. clash t f }
 
       gaveBack-inv : Inv O G h (gaveBack c old s)
       gaveBack-inv = relock (λ j. givenBack c old j (s .lock j)) NoRebuild change mine refl
@@ -188,7 +182,7 @@ module _ (O : Ops) where
           mine : (j : ℕ) → IsNode O j → heldBy c (givenBack c old j (s .lock j)) ≡ false
           mine j b =
               cond-ind (λ l. heldBy c l ≡ false) (leb j (length old) && heldBy c (s .lock j)) (was j) (s .lock j) (λ e. unlocked-was (λ l. heldBy c l ≡ false) j refl refl)
-              (λ f. refute (heldBy c (s .lock j)) (λ q. let a = locking j b .before q in clash (rw (le-leb j (length old) (omega arith), q)) f))
+              (λ f. is-false (heldBy c (s .lock j)) (λ q. let a = locking j b .before q in clash (rw (le-leb j (length old) (omega arith), q)) f))
 
       module _ (l : Lmode) (is-l : Node.isExp l ≡ isExp (s .lock (suc (length old)))) (free : isLocked (s .lock (suc (length old))) ≡ false) where
         abbrev x : ℕ
@@ -230,11 +224,8 @@ module _ (O : Ops) where
             }
 
         mine : (j : ℕ) → IsNode O j → heldBy c (cond (ltb k j && leb j n) (L0 c) (s .lock j)) ≡ true → (suc k ≡ 0) ⊎ (j < suc k) → cond (ltb k j && leb j n) (L0 c) (s .lock j) ≡ L1 c
-        mine j b q (inl f) = absurd (no-way f)
-          where
-            no-way : suc k ≡ 0 → ⊥
-            no-way f = omega arith
-        mine j b q (inr f) = let data-node : ltb k j ≡ false = le-ltb k j (omega arith) in rw data-node (phase-is O G h s I c (Picking 0) p j b (held j b) (inl refl))
+        mine j b q (inl f) = absurd (omega arith)
+        mine j b q (inr f) = let data-node : ltb k j ≡ false = le-ltb k j (omega arith) in rw data-node (phase-is O I c p j b (held j b) (inl refl))
 
     tightened-inv : (t : ℕ) → s .phase c ≡ Picking (suc t) → heldBy c (s .lock (suc t)) ≡ true → Inv O G h (tightened c (suc t) s)
     tightened-inv t p held =
@@ -248,7 +239,7 @@ module _ (O : Ops) where
         tight : (j : ℕ) → IsNode O j → j < suc (suc t) → heldBy c (lock' j) ≡ true → lock' j ≡ L1 c
         tight =
             upd-ind (λ j l. IsNode O j → j < suc (suc t) → heldBy c l ≡ true → l ≡ L1 c) (s .lock) (suc t) (L1 c) (λ b a q. refl)
-            (λ j ne b a q. phase-is O G h s I c (Picking (suc t)) p j b q (inr (omega arith)))
+            (λ j ne b a q. phase-is O I c p j b q (inr (omega arith)))
 
         mine : (j : ℕ) → IsNode O j → PhaseOk O G c (cond (leb n (suc t)) (Picking 0) (Picking (suc (suc t)))) j (s .op j) (lock' j) (s .epoch j)
         mine j b =
@@ -267,12 +258,12 @@ module _ (O : Ops) where
         (cond-ind (λ p. writes p ≡ false) (leb n x) NoRebuild (Unlocking (suc x)) (λ e. refl) (λ e. refl))
       where
         unlocking : (j : ℕ) → IsNode O j → UnlockingOk O G c x j (s .op j) (s .lock j)
-        unlocking = phase-is O G h s I c (Unlocking x) p
+        unlocking = phase-is O I c p
 
         last : n ≤ x → (j : ℕ) → IsNode O j → heldBy c (upd (s .lock) x Unl j) ≡ false
         last a =
             upd-ind (λ j l. IsNode O j → heldBy c l ≡ false) (s .lock) x Unl (λ b. refl)
-            (λ j ne b. refute (heldBy c (s .lock j)) (λ q. let d = unlocking j b .ahead q in absurd (ne (omega arith))))
+            (λ j ne b. is-false (heldBy c (s .lock j)) (λ q. let d = unlocking j b .ahead q in absurd (ne (omega arith))))
 
         more : x < n → (j : ℕ) → IsNode O j → UnlockingOk O G c (suc x) j (s .op j) (upd (s .lock) x Unl j)
         more a =
@@ -283,22 +274,22 @@ module _ (O : Ops) where
   ---- the calls
   module _ (h : Ledger B) (s : Columns B) (g : Good O h s) (c : ℕ) where
     pub lost-good : Good O h (lost c s)
-    lost-good = record { ghost = g .ghost; inv = lost-inv (g .ghost) h s (g .inv) c }
+    lost-good = record { ghost = _; inv = lost-inv (g .inv) c }
 
     pub stopped-good : Good O h (stopped c s)
-    stopped-good = record { ghost = g .ghost; inv = stopped-inv (g .ghost) h s (g .inv) c }
+    stopped-good = record { ghost = _; inv = stopped-inv (g .inv) c }
 
     pub gaveBack-good : (old : List Lmode) → LocksNext (s .phase c) old → Good O h (gaveBack c old s)
-    gaveBack-good old next = record { ghost = g .ghost; inv = gaveBack-inv (g .ghost) h s (g .inv) c old next }
+    gaveBack-good old next = record { ghost = _; inv = gaveBack-inv (g .inv) c old next }
 
     pub locked-good : (old : List Lmode) → LocksNext (s .phase c) old → (l : Lmode) → Node.isExp l ≡ isExp (s .lock (suc (length old))) → isLocked (s .lock (suc (length old))) ≡ false → Good O h (locked c old l s)
-    locked-good old next l is-l free = record { ghost = g .ghost; inv = locked-inv (g .ghost) h s (g .inv) c old next l is-l free }
+    locked-good old next l is-l free = record { ghost = _; inv = locked-inv (g .inv) c old next l is-l free }
 
     pub weakened-good : s .phase c ≡ Picking 0 → ((j : ℕ) → IsNode O j → heldBy c (s .lock j) ≡ true) → ((j : ℕ) → isRecons (s .op j) ≡ false) → Good O h (weakened c s)
-    weakened-good p held no-recons = record { ghost = g .ghost; inv = weakened-inv (g .ghost) h s (g .inv) c p held no-recons }
+    weakened-good p held no-recons = record { ghost = _; inv = weakened-inv (g .inv) c p held no-recons }
 
     pub tightened-good : (t : ℕ) → s .phase c ≡ Picking (suc t) → heldBy c (s .lock (suc t)) ≡ true → Good O h (tightened c (suc t) s)
-    tightened-good t p held = record { ghost = g .ghost; inv = tightened-inv (g .ghost) h s (g .inv) c t p held }
+    tightened-good t p held = record { ghost = _; inv = tightened-inv (g .inv) c t p held }
 
     pub unlocked-good : (x : ℕ) → s .phase c ≡ Unlocking x → IsNode O x → heldBy c (s .lock x) ≡ true → Good O h (unlocked c x s)
-    unlocked-good x p xn held = record { ghost = g .ghost; inv = unlocked-inv (g .ghost) h s (g .inv) c x p xn held }
+    unlocked-good x p xn held = record { ghost = _; inv = unlocked-inv (g .inv) c x p xn held }

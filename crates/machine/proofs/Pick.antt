@@ -15,22 +15,19 @@ use Rattle.records.specs.declared.Epoch.{Epoch}
 use Rattle.records.specs.Entries.{isListed, isRecentIn, isOldIn}
 use Rattle.records.specs.Node.{isInit, isNorm, isRecons}
 use Rattle.records.specs.Client.{Write, Rebuild, Writing}
-use Rattle.machine.proofs.Base.{upd, upd-same, upd-ind, clash, refute, bool-cases}
+use Rattle.machine.proofs.Base.{upd, upd-same, upd-ind, clash, is-false, bool-cases}
 use Rattle.machine.proofs.EntryLaws.{recent-listed}
 use Rattle.machine.proofs.Columns.{Ops, L1, Columns, setSpare, setPhases}
 use Rattle.machine.proofs.Ledger.{Ledger, IsPos, noteCount}
 use Rattle.machine.proofs.Invariant.{Ghost, Laws, code, IsNode, Spot, at, Between, Live, Unwritten, PairOk, writes, WritingOk, PhaseOk, WriterOk, Inv, Good}
-use Rattle.machine.proofs.Frame.{of-live, writer-holds, recons-live, norm-live, code-ext, phase-quiet}
+use Rattle.machine.proofs.Frame.{of-live, counted, writer-holds, recons-live, norm-live, code-ext, phase-quiet}
 use Rattle.machine.proofs.Phases.{rebuild-only, one-writer}
 use Rattle.machine.proofs.Progress.{between-step, ids-step, finished-step, node-step, hand-step}
 
 -- a set that is not empty has a member: here at place q of the list, which starts at node i
 a-place : (i : ℕ) (w : List Bool) → 1 ≤ length (membersFrom i w) → (q : ℕ) × (getD w q false ≡ true)
 unfolding membersFrom
-a-place i [] many = absurd (no-way many)
-  where
-    no-way : 1 ≤ 0 → ⊥
-    no-way a = omega arith
+a-place i [] many = absurd (omega arith)
 a-place i (true ∷ w) many = (0, refl)
 a-place i (false ∷ w) many = let m = a-place (suc i) w many in (suc (m .0), m .1)
 
@@ -69,7 +66,7 @@ module _ (O : Ops) where
     -- what is written or settled keeps its cut
     pub same : (j : ℕ) → (isRecons (s .op j) ≡ true) ⊎ (G .isSettled j ≡ true) → (i : ℕ) → cut i ≡ G .cut i
 
-  module _ (G : Ghost) (h : Ledger B) (s : Columns B) (I : Inv O G h s) where
+  module _ {G : Ghost} {h : Ledger B} {s : Columns B} (I : Inv O G h s) where
     -- with a node written or settled: the members stand at its cut
     cut-agrees : (w : NodeSet) (r : ℕ) → (isRecons (s .op r) ≡ true) ⊎ (G .isSettled r ≡ true) → ((j : ℕ) → has w j ≡ true → isInit (s .op j) ≡ false) → ((j : ℕ) → has w j ≡ true → (i : ℕ) → Spot O j i → G .inBlock j i ≡ G .cut i) →
         Agrees G h s w
@@ -105,12 +102,8 @@ module _ (O : Ops) where
               let same-b = unwritten b nb .same i at-b in
               let most : l ≤ h .len i = (let m = live a na .between i at-a .most in omega arith) in
               let recent = I .node a .list .undone i l at-a low (omega arith) undone in
-              let there = within (G .idOf i l) recent (λ j t. refute (isOldIn (G .idOf i l) (s .entries j)) (λ o. clash (I .node j .list .old i l low most o) undone)) in
-              let m = I .node b .list .listed (G .idOf i l) (recent-listed (G .idOf i l) (s .entries b) there) in
-              let at-i = I .ids .idOf-pos i l low most in
-              let m-high : m .l ≤ G .inList b i = subst (λ x. m .l ≤ G .inList b x) at-i (m .high) in
-              let short = I .node b .list .short i in
-              let is-l = I .ids .idOf-inj i (m .l) l (m .low) (omega arith) low most (subst (λ x. G .idOf x (m .l) ≡ G .idOf i l) at-i (m .is)) in omega arith
+              let there = within (G .idOf i l) recent (λ j t. is-false (isOldIn (G .idOf i l) (s .entries j)) (λ o. clash (I .node j .list .old i l low most o) undone)) in
+              let m = counted O I b i l low most (recent-listed (G .idOf i l) (s .entries b) there) .1 in omega arith
 
           go : (h .done i (G .inBlock a i) ≡ true) ⊎ (h .done i (G .inBlock a i) ≡ false) → G .inBlock a i ≤ G .inBlock b i
           go (inl t) = live b nb .between i at-b .least (G .inBlock a i) t
@@ -155,7 +148,7 @@ module _ (O : Ops) where
         -- if one NORM node is settled all are
         go : (G .isSettled m ≡ true) ⊎ (G .isSettled m ≡ false) → Agrees G h s w
         go (inl t) = cut-agrees w m (inr t) (λ j q. norm-live (s .op j) (norm j q)) (λ j q. I .node j .settled (I .pair m j .together t (norm j q)) .on .cut)
-        go (inr f) = consistent-agrees no-recons (λ j. refute (G .isSettled j) (λ t. clash (I .pair j m .together t (norm m in-w)) f)) w norm consistent
+        go (inr f) = consistent-agrees no-recons (λ j. is-false (G .isSettled j) (λ t. clash (I .pair j m .together t (norm m in-w)) f)) w norm consistent
     candidate-agrees w m in-w (resumed r recons is) = cut-agrees w r (inl recons) (λ j q. live j (is j q)) (λ j q. at-cut j (is j q))
       where
         live : (j : ℕ) → (isRecons (s .op j) ≡ true) ⊎ ((isInit (s .op j) ≡ false) × ((l : ℕ) × (has (s .rset l) j ≡ true))) → isInit (s .op j) ≡ false
@@ -167,7 +160,7 @@ module _ (O : Ops) where
         at-cut j (inr t) = I .pair (t .1 .0) j .member (t .1 .1) (t .0)
 
   ---- the pick
-  module _ (L : Laws O) (G : Ghost) (h : Ledger B) (s : Columns B) (I : Inv O G h s) (c : ℕ) (w : NodeSet) (e : Epoch) (A : Agrees G h s w) (many : k ≤ size w)
+  module _ (L : Laws O) {G : Ghost} {h : Ledger B} {s : Columns B} (I : Inv O G h s) (c : ℕ) (w : NodeSet) (e : Epoch) (A : Agrees G h s w) (many : k ≤ size w)
       (held : (j : ℕ) → IsNode O j → s .lock j ≡ L1 c) (top : (j : ℕ) → IsNode O j → s .epoch j ≤ e .0) where
     abbrev G' : Ghost
     G' = record { idOf = G .idOf; base = G .base; inBlock = G .inBlock; inList = G .inList; cut = A .cut; isSettled = G .isSettled; begun = G .begun }
@@ -184,7 +177,7 @@ module _ (O : Ops) where
 
     -- another who wrote would hold it
     quiet : (d : ℕ) → c ≢ d → writes (s .phase d) ≡ false
-    quiet d ne = refute (writes (s .phase d)) (λ t. absurd (ne (same-l1 (sym (held (m .0) in-range) ∙ theirs t))))
+    quiet d ne = is-false (writes (s .phase d)) (λ t. absurd (ne (same-l1 (sym (held (m .0) in-range) ∙ theirs t))))
       where
         in-range : IsNode O (m .0)
         in-range = of-live O (member-live (m .0) (m .1))
@@ -196,16 +189,13 @@ module _ (O : Ops) where
         same-l1 e = cc
 
     writing : (j : ℕ) → IsNode O j → WritingOk O G' c 1 (has w) j (s .op j) (s .lock j)
-    writing j b = record { all-held = λ i. held j b; tight = λ t. held j b; behind = λ q a t. absurd (no-way a t); member = λ q i. A .at-cut j q }
-      where
-        no-way : 1 ≤ j → j < 1 → ⊥
-        no-way a t = omega arith
+    writing j b = record { all-held = λ i. held j b; tight = λ t. held j b; behind = λ q a t. absurd (omega arith); member = λ q i. A .at-cut j q }
 
     writer : WriterOk O G' h' (decode w (s .block)) (h' .settles c) 1 (e .0)
     writer =
         record {
           epoch = let v = member-live (m .0) (m .1) in let a = v .epoch in let b = top (m .0) (of-live O v) in omega arith;
-          between = λ i p. between-step O G G' h h' (A .cut i) i (A .between i p);
+          between = λ i p. between-step O h' (A .between i p);
           low = omega arith;
           high = let a = L .k-n in omega arith;
           spare = L .decodes w (s .block) (at O h (A .cut)) many
@@ -216,12 +206,11 @@ module _ (O : Ops) where
     picked-inv : Inv O G' h' (picked c w e s)
     picked-inv =
         record {
-          ids = ids-step O G G' h h' (s .next) (I .ids);
-          node = λ j. node-step O G G' h h' L j (s .block j) (s .op j) (s .epoch j) (s .entries j)
-              (record { inBlock = λ i. refl; inList = λ i. refl; isSettled = refl; cut = A .same j; begun = λ t. t }) (I .node j);
+          ids = ids-step O G' h' (I .ids);
+          node = λ j. node-step O G' h' L (λ t. t) (record { inBlock = λ i. refl; inList = λ i. refl; isSettled = refl; cut = A .same j; begun = λ t. t }) (I .node j);
           pair = λ j l. let v = I .pair j l in record { together = v .together; only = v .only; member = λ q t i sp. v .member q t i sp ∙ sym (A .same j (inl (v .only q)) i) };
-          hand = λ d u q. hand-step O G G' h h' (s .op) (s .op) (λ j a b. (a, b, λ i. refl)) d (s .difference d) u (I .hand d u q);
-          finished = λ d. finished-step O G G' h h' d (s .next d) (s .finished d) (I .finished d);
+          hand = λ d u q. hand-step O G' h' (s .op) (λ j a b. (a, b, λ i. refl)) (I .hand d u q);
+          finished = λ d. finished-step O G' h' (I .finished d);
           unl = I .unl;
           weak = I .weak;
           phase = upd-ind (λ d q. (j : ℕ) → IsNode O j → PhaseOk O G' d q j (s .op j) (s .lock j) (s .epoch j)) (s .phase) c (Writing 1 w e) writing
@@ -233,7 +222,5 @@ module _ (O : Ops) where
   pub picked-good : Laws O → (h : Ledger B) (s : Columns B) → Good O h s → (c : ℕ) (w : NodeSet) (e : Epoch) → Candidate s w → k ≤ size w → ((j : ℕ) → IsNode O j → s .lock j ≡ L1 c) → ((j : ℕ) → IsNode O j → s .epoch j ≤ e .0) →
       Good O (noteCount h c 0) (picked c w e s)
   picked-good L h s g c w e candidate many held top =
-      record { ghost = G' L (g .ghost) h s (g .inv) c w e agrees many held top; inv = picked-inv L (g .ghost) h s (g .inv) c w e agrees many held top }
-    where
-      agrees : Agrees (g .ghost) h s w
-      agrees = let m = a-member w (let a = L .k-two in omega arith) in candidate-agrees (g .ghost) h s (g .inv) w (m .0) (m .1) candidate
+      let m = a-member w (let a = L .k-two in omega arith) in
+      record { ghost = _; inv = picked-inv L (g .inv) c w e (candidate-agrees (g .inv) w (m .0) (m .1) candidate) many held top }

@@ -14,7 +14,7 @@ use Rattle.records.specs.declared.Opmode.the-variants.{Recons}
 use Rattle.records.specs.declared.Epoch.{Epoch}
 use Rattle.records.specs.Node.{isInit, isNorm, isRecons}
 use Rattle.records.specs.Client.{Write, Rebuild, Writing, Settling}
-use Rattle.machine.proofs.Base.{upd, upd-same, upd-other, upd-ind, same-or, clash, cond-ind}
+use Rattle.machine.proofs.Base.{upd, upd-same, upd-other, upd-ind, each-place, clash, cond-ind}
 use Rattle.machine.proofs.Columns.{Ops, L1, isUnl, isL0, heldBy, Columns, setBlocks, setOps, setEpochs, setRsets, setPhases}
 use Rattle.machine.proofs.Ledger.{Ledger}
 use Rattle.machine.proofs.Invariant.{Ghost, Laws, code, IsNode, Spot, at, Between, NodeOk, PairOk, HandOk, WritingOk, PhaseOk, WriterOk, RebuildOk, Inv, Good}
@@ -34,7 +34,7 @@ module _ (O : Ops) where
       setBlocks (upd (s .block) x (s .spare x))
       (setOps (upd (s .op) x Recons) (setEpochs (upd (s .epoch) x (e .0)) (setRsets (upd (s .rset) x w) (setPhases (upd (s .phase) c (writePhase x w e)) s))))
 
-  module _ (L : Laws O) (G : Ghost) (h : Ledger B) (s : Columns B) (I : Inv O G h s) (c x : ℕ) (w : NodeSet) (e : Epoch) (p : s .phase c ≡ Writing x w e)
+  module _ (L : Laws O) {G : Ghost} {h : Ledger B} {s : Columns B} (I : Inv O G h s) (c x : ℕ) (w : NodeSet) (e : Epoch) (p : s .phase c ≡ Writing x w e)
       (held : heldBy c (s .lock x) ≡ true) where
     abbrev G' : Ghost
     G' = record { idOf = G .idOf; base = G .base; inBlock = upd (G .inBlock) x (G .cut); inList = G .inList; cut = G .cut; isSettled = upd (G .isSettled) x false; begun = true }
@@ -43,16 +43,16 @@ module _ (O : Ops) where
     op' = upd (s .op) x Recons
 
     writer : WriterOk O G h (s .spare) (h .settles c) x (e .0)
-    writer = rebuild-is O G h s I c (Writing x w e) p
+    writer = rebuild-is O I c p
 
     writing : (j : ℕ) → IsNode O j → WritingOk O G c x (has w) j (s .op j) (s .lock j)
-    writing = phase-is O G h s I c (Writing x w e) p
+    writing = phase-is O I c p
 
     -- what is live is at L1
     l1 : (j : ℕ) → isInit (op' j) ≡ false → s .lock j ≡ L1 c
     l1 =
         upd-ind (λ j o. isInit o ≡ false → s .lock j ≡ L1 c) (s .op) x Recons (λ i. writing x (record { low = writer .low; high = writer .high }) .tight held)
-        (λ j ne. writer-lock O G h s I c (Writing x w e) p refl j)
+        (λ j ne. writer-lock O I c p refl j)
 
     live' : (j : ℕ) → isNorm (s .op j) ≡ true → isInit (op' j) ≡ false
     live' = upd-ind (λ j o. isNorm (s .op j) ≡ true → isInit o ≡ false) (s .op) x Recons (λ t. refl) (λ j ne. norm-live (s .op j))
@@ -62,7 +62,7 @@ module _ (O : Ops) where
     at-x = upd-same (G .inBlock) x (G .cut)
 
     inBlock-other : (j : ℕ) → x ≢ j → (i : ℕ) → upd (G .inBlock) x (G .cut) j i ≡ G .inBlock j i
-    inBlock-other j ne i = ap (λ (f : ℕ → ℕ). f i) (upd-other (G .inBlock) x (G .cut) j ne)
+    inBlock-other j ne i = rw (upd-other (G .inBlock) x (G .cut) j ne)
 
     itself : NodeOk O G' h x (s .spare x) Recons (e .0) (s .entries x)
     itself =
@@ -88,22 +88,12 @@ module _ (O : Ops) where
         bare (inr t) = clash t (upd-same (G .isSettled) x false)
 
     node : (j : ℕ) → NodeOk O G' h j (upd (s .block) x (s .spare x) j) (op' j) (upd (s .epoch) x (e .0) j) (s .entries j)
-    node j = go (same-or x j)
-      where
-        go : (x ≡ j) ⊎ (x ≢ j) → NodeOk O G' h j (upd (s .block) x (s .spare x) j) (op' j) (upd (s .epoch) x (e .0) j) (s .entries j)
-        go (inl q) =
-            subst (λ j. NodeOk O G' h j (upd (s .block) x (s .spare x) j) (op' j) (upd (s .epoch) x (e .0) j) (s .entries j)) q
-            (rw (upd-same (s .block) x (s .spare x), upd-same (s .op) x Recons, upd-same (s .epoch) x (e .0)) itself)
-        go (inr ne) =
-            rw (upd-other (s .block) x (s .spare x) j ne, upd-other (s .op) x Recons j ne, upd-other (s .epoch) x (e .0) j ne)
-            (node-step O G G' h h L j (s .block j) (s .op j) (s .epoch j) (s .entries j)
-            (record {
-              inBlock = inBlock-other j ne;
-              inList = λ i. refl;
-              isSettled = upd-other (G .isSettled) x false j ne;
-              cut = λ r i. refl;
-              begun = λ t. refl;
-            }) (I .node j))
+    node =
+        each-place (λ j. NodeOk O G' h j (upd (s .block) x (s .spare x) j) (op' j) (upd (s .epoch) x (e .0) j) (s .entries j)) x
+        (rw (upd-same (s .block) x (s .spare x), upd-same (s .op) x Recons, upd-same (s .epoch) x (e .0)) itself)
+        (λ j ne. rw (upd-other (s .block) x (s .spare x) j ne, upd-other (s .op) x Recons j ne, upd-other (s .epoch) x (e .0) j ne)
+        (node-step O G' h L (λ t. t)
+        (record { inBlock = inBlock-other j ne; inList = λ i. refl; isSettled = upd-other (G .isSettled) x false j ne; cut = λ r i. refl; begun = λ t. refl }) (I .node j)))
 
     -- a node that is NORM is not x, and was NORM
     norm-other : (j : ℕ) → isNorm (op' j) ≡ true → (x ≢ j) × (isNorm (s .op j) ≡ true)
@@ -130,7 +120,7 @@ module _ (O : Ops) where
 
     hand : (d : ℕ) (u : Write) → s .hand d ≡ some u → HandOk O G' h op' d (s .difference d) u
     hand d u q =
-        hand-step O G G' h h (s .op) op' (λ j a b. let r = norm-other j a in (r .1, sym (upd-other (G .isSettled) x false j (r .0)) ∙ b, inBlock-other j (r .0))) d (s .difference d) u (I .hand d u q)
+        hand-step O G' h op' (λ j a b. let r = norm-other j a in (r .1, sym (upd-other (G .isSettled) x false j (r .0)) ∙ b, inBlock-other j (r .0))) (I .hand d u q)
 
     ---- the phases
     behind : (j : ℕ) → IsNode O j → heldBy c (s .lock j) ≡ true → 1 ≤ j → j < suc x → isRecons (op' j) ≡ true
@@ -143,13 +133,10 @@ module _ (O : Ops) where
         cond-ind (λ q. PhaseOk O G' c q j (op' j) (s .lock j) (upd (s .epoch) x (e .0) j)) (leb n x) (Settling 1 e) (Writing (suc x) w e)
         (λ t. record {
           all-held = l1 j;
-          behind = λ q a l. absurd (no-way a l);
-          behind-epoch = λ q a l. absurd (no-way a l);
+          behind = λ q a l. absurd (omega arith);
+          behind-epoch = λ q a l. absurd (omega arith);
           ahead = λ q a l. behind j b q a (let r = leb-true n x t in omega arith);
         }) (λ t. record { all-held = l1 j; tight = writing j b .tight; behind = behind j b; member = λ q. at-cut j (writing j b .member q) })
-      where
-        no-way : 1 ≤ j → j < 1 → ⊥
-        no-way a l = omega arith
 
     rebuild : RebuildOk O G' h (s .spare) c (writePhase x w e)
     rebuild =
@@ -163,17 +150,17 @@ module _ (O : Ops) where
     written-inv : Inv O G' h (written c x w e s)
     written-inv =
         record {
-          ids = ids-step O G G' h h (s .next) (I .ids);
+          ids = ids-step O G' h (I .ids);
           node = node;
           pair = pair;
           hand = hand;
-          finished = λ d. finished-step O G G' h h d (s .next d) (s .finished d) (I .finished d);
+          finished = λ d. finished-step O G' h (I .finished d);
           unl = λ t j i. ap isUnl (l1 j i);
           weak = λ j l r i. ap isL0 (l1 l i);
-          phase = phase-after O G h s I c (Writing x w e) p refl G' op' (upd (s .epoch) x (e .0)) (writePhase x w e) live' l1 mine;
-          rebuild = rebuild-only O (s .phase) c (writePhase x w e) (others-quiet O G h s I c (Writing x w e) p refl) G' h (s .spare) rebuild;
-          one = one-writer O (s .phase) c (writePhase x w e) (others-quiet O G h s I c (Writing x w e) p refl);
+          phase = phase-after O I c p refl G' op' (upd (s .epoch) x (e .0)) (writePhase x w e) live' l1 mine;
+          rebuild = rebuild-only O (s .phase) c (writePhase x w e) (others-quiet O I c p refl) G' h (s .spare) rebuild;
+          one = one-writer O (s .phase) c (writePhase x w e) (others-quiet O I c p refl);
         }
 
   pub written-good : Laws O → (h : Ledger B) (s : Columns B) → Good O h s → (c x : ℕ) (w : NodeSet) (e : Epoch) → s .phase c ≡ Writing x w e → heldBy c (s .lock x) ≡ true → Good O h (written c x w e s)
-  written-good L h s g c x w e p held = record { ghost = G' L (g .ghost) h s (g .inv) c x w e p held; inv = written-inv L (g .ghost) h s (g .inv) c x w e p held }
+  written-good L h s g c x w e p held = record { ghost = _; inv = written-inv L (g .inv) c x w e p held }
