@@ -11,3 +11,9 @@ pub mod Add
 pub mod Hands
 pub mod Sweep
 pub mod Fail
+pub mod Start
+pub mod Bytes
+pub mod View
+pub mod Kept
+pub mod Limits
+pub mod Examples

@@ -23,14 +23,17 @@ abbrev pub fresh : Sizes → List ℕ → List ℕ → Stripe
 fresh z spare differences =
     record { nodes = replicate (z .n) freshNode; clients = replicate (z .m) freshClient; blocks = replicate (z .n * z .b) 0; spare = spare; differences = differences }
 
--- element j of a list, j from 1: outside the list a node counts as failed, a client as fresh
-unfoldable pub nodeAt : List Node → ℕ → Node
-nodeAt nodes zero = failedNode
-nodeAt nodes (suc j) = getD nodes j failedNode
+-- element j of a list, j from 1; outside the list d
+unfoldable pub elementAt : {A : Type 0} → A → List A → ℕ → A
+elementAt d l zero = d
+elementAt d l (suc j) = getD l j d
 
-unfoldable pub clientAt : List Client → ℕ → Client
-clientAt clients zero = freshClient
-clientAt clients (suc c) = getD clients c freshClient
+-- a node that is not there counts as failed, a client as fresh
+abbrev pub nodeAt : List Node → ℕ → Node
+nodeAt nodes j = elementAt failedNode nodes j
+
+abbrev pub clientAt : List Client → ℕ → Client
+clientAt clients c = elementAt freshClient clients c
 
 -- the list with another element j
 unfoldable pub setAt : {A : Type 0} → List A → ℕ → A → List A
