@@ -7,3 +7,4 @@ pub mod Frame
 pub mod Bytes
 pub mod View
 pub mod Kept
+pub mod Tables
