@@ -4,6 +4,13 @@ pub mod Columns
 pub mod Ledger
 pub mod Invariant
 pub mod Frame
+pub mod Sets
+pub mod Entering
+pub mod Swap
+pub mod Add
+pub mod Hands
+pub mod Sweep
+pub mod Fail
 pub mod Bytes
 pub mod View
 pub mod Kept
