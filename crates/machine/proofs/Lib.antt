@@ -15,5 +15,6 @@ pub mod Start
 pub mod Bytes
 pub mod View
 pub mod Kept
+pub mod Tables
 pub mod Limits
 pub mod Examples
