@@ -2,10 +2,9 @@
 use mathlib.Core.Path.{_≡_, refl, sym, ap, ap₂, subst, _∙_}
 use mathlib.Core.Logic.{_≢_, _⊎_, inl, inr}
 use mathlib.Core.Bool.{Bool, true, false, _||_}
-use mathlib.Core.List.{List, [], _∷_, _++_}
-use mathlib.Core.Option.{Option, none, some}
+use mathlib.Core.List.{[], _∷_, _++_}
+use mathlib.Core.Option.{none, some}
 use Prim.Native.Nat.{ℕ, zero, suc, _≤_, _<_}
-use native.Mathlib.Nat.{le-trans}
 use native.Mathlib.Omega.{arith}
 use Rattle.code.specs.Decode.{has, including}
 use Rattle.records.specs.declared.WriteId.{WriteId}
@@ -17,7 +16,7 @@ use Rattle.machine.specs.Writing.{withDone}
 use Rattle.machine.proofs.Base.{upd, upd-same, upd-other, upd-ind, each-place, clash, is-false, some-same, not-some, or-one}
 use Rattle.machine.proofs.EntryLaws.{same-id, in-snoc}
 use Rattle.machine.proofs.Columns.{Ops, isUnl, isL0, Columns, setBlocks, setEntries, setHands, setFinished}
-use Rattle.machine.proofs.Ledger.{Ledger, Swapped, IsPos, noteDone, upd2}
+use Rattle.machine.proofs.Ledger.{Ledger, noteDone, upd2}
 use Rattle.machine.proofs.Invariant.{Ghost, Laws, code, Spot, at, IdsOk, Own, HandOk, FinishedOk, Inv, Good}
 use Rattle.machine.proofs.Frame.{of-live, counted, norm-live, upd2-same, upd2-pos, upd2-ind, code-red}
 use Rattle.machine.proofs.Sets.{including-same, including-other}

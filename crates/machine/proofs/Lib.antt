@@ -17,8 +17,10 @@ pub mod Progress
 pub mod Pick
 pub mod Write
 pub mod Settle
+pub mod Start
 pub mod Bytes
 pub mod View
 pub mod Kept
+pub mod Tables
 pub mod Limits
 pub mod Examples
