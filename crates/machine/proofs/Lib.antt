@@ -22,5 +22,7 @@ pub mod Bytes
 pub mod View
 pub mod Kept
 pub mod Tables
+pub mod Elements
+pub mod KeptRebuild
 pub mod Limits
 pub mod Examples

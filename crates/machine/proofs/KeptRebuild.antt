@@ -1,0 +1,256 @@
+-- The calls on the whole stripe keep the invariant and the shapes of the tables. Assumes nothing.
+use mathlib.Core.Path.{_≡_, refl, sym, ap, fun-ext, subst, _∙_}
+use mathlib.Core.Logic.{_≢_, _⊎_, inl, inr}
+use mathlib.Core.Bool.{Bool, true, false, cond, _&&_, _||_, not}
+use mathlib.Core.List.{List, [], _∷_, _++_, map}
+use Prim.Native.Nat.{ℕ, zero, suc, _+_, _*_, _≤_, _<_}
+use native.Mathlib.Numerals.{add-one}
+use native.Mathlib.Omega.{arith}
+use lib.Dec.{eqb, leb, ltb}
+use lib.ListN.{length, getD, length-map, length-set}
+use borrow.Author.Tests.{leb-true, leb-false, ltb-true, not-false}
+use Rattle.blocks.specs.Blocks.{Bytes}
+use Rattle.records.specs.declared.Sizes.{Sizes}
+use Rattle.records.specs.declared.Epoch.{Epoch}
+use Rattle.records.specs.declared.Lmode.{Lmode}
+use Rattle.records.specs.declared.Lmode.the-variants as Lmode
+use Rattle.records.specs.declared.Holder.{Holder}
+use Rattle.records.specs.declared.Holder.the-variants.{Nobody, Client}
+use Rattle.records.specs.declared.Refusal.{Refusal}
+use Rattle.records.specs.declared.Refusal.the-variants.{OutOfLimits, OutOfRange, OutOfPhase, NotHeld, Locked}
+use Rattle.records.specs.Sizes.{sizesWithin, isClient}
+use Rattle.records.specs.Node.{Node, withLmode, expiredFor, failedNode, lockedBy}
+use Rattle.records.specs.Node as Node
+use Rattle.records.specs.Client as Records
+use Rattle.records.specs.Client.{Rebuild, NoRebuild, Locking, Picking, Writing, Settling, Unlocking, withRebuild, unlOrExp, rebuildWithin, clientWithin}
+use Rattle.machine.specs.Stripe.{Stripe, Answer, Accepted, Refused, Outcome, Whole, answered, refused, guard, elementAt, nodeAt, clientAt, setAt, whole, putWhole, nodesFit, everyOf}
+use Rattle.machine.specs.Calls.{Call, step}
+use Rattle.machine.specs.Calls as Calls
+use Rattle.machine.specs.Rebuild as Rebuild
+use Rattle.machine.specs.Rebuild.{advanced, holding, outOfLimits, restored}
+use Rattle.gf256.proofs.Computed.{and-left, and-right}
+use Rattle.machine.proofs.Base.{upd, upd-same, upd-other, each-place, clash, cond-ind}
+use Rattle.machine.proofs.Columns.{Columns, Lock, Unl, Exp, heldBy, setLocks}
+use Rattle.machine.proofs.Ledger.{Ledger, note}
+use Rattle.machine.proofs.Invariant.{Laws, IsNode, Good, wasExp}
+use Rattle.machine.proofs.Bytes.{Block, blockOf, ops}
+use Rattle.machine.proofs.View.{columns, lockOf, lockIn, withClient, withNodes, withClients, put-client, set-column, upd-keep, held-is, locked-is, exp-is}
+use Rattle.machine.proofs.Kept.{Fits, Kept, KeptWhole, entry, whole-refused, whole-guard}
+use Rattle.machine.proofs.Elements.{length-setAt, every-at, map-at, length-restored, restored-first, restored-rest, unl-or-exp}
+use Rattle.machine.proofs.Locks.{expired, givenBack, LocksNext, relocked, lost, lost-good, gaveBack-good, locked-good}
+
+---- a record with another lock
+-- y is x with the lock l
+record LockedAs (x : Node) (l : Lock) (y : Node) : Type 0 where
+  opmode : y .opmode ≡ x .opmode
+  lock : lockIn y ≡ l
+  epoch : y .epoch ≡ x .epoch
+  rset : y .rset ≡ x .rset
+  entries : y .entries ≡ x .entries
+
+with-lmode : (x : Node) (l : Lmode) (h : Holder) → LockedAs x (lockOf l h) (withLmode x l h)
+with-lmode x l h = record { opmode = refl; lock = refl; epoch = refl; rset = refl; entries = refl }
+
+as-it-is : (x : Node) → LockedAs x (lockIn x) x
+as-it-is x = record { opmode = refl; lock = refl; epoch = refl; rset = refl; entries = refl }
+
+-- one test for the lock and the record
+one-test : {x y y' : Node} {l l' : Lock} (t : Bool) → LockedAs x l y → LockedAs x l' y' → LockedAs x (cond t l l') (cond t y y')
+one-test true v v' = v
+one-test false v v' = v'
+
+expired-as : (c : ℕ) (x : Node) → 1 ≤ c → LockedAs x (expired c (lockIn x)) (expiredFor c x)
+expired-as c x c1 = rw (← held-is c x c1) (one-test (Node.heldBy c x) (with-lmode x Lmode.Exp Nobody) (as-it-is x))
+
+given-as : (x : Node) (l : Lmode) → (Node.isUnl l || Node.isExp l) ≡ true → LockedAs x (cond (Node.isExp l) Exp Unl) (withLmode x l Nobody)
+given-as x Lmode.Unl e = with-lmode x Lmode.Unl Nobody
+given-as x Lmode.L0 e = clash e refl
+given-as x Lmode.L1 e = clash e refl
+given-as x Lmode.Exp e = with-lmode x Lmode.Exp Nobody
+
+restored-as : (c : ℕ) → 1 ≤ c → (old : List Lmode) → unlOrExp old ≡ true → (nodes : List Node) (j : ℕ) → LockedAs (nodeAt nodes j) (givenBack c old j (lockIn (nodeAt nodes j))) (nodeAt (restored c old nodes) j)
+unfolding elementAt wasExp
+restored-as c c1 old e nodes zero = go (leb 0 (length old))
+  where
+    go : (t : Bool) → LockedAs failedNode (cond (t && false) Unl Unl) failedNode
+    go true = as-it-is failedNode
+    go false = as-it-is failedNode
+restored-as c c1 old e nodes (suc j) = go (leb (suc j) (length old)) refl
+  where
+    l : Lmode
+    l = getD old j Lmode.Unl
+
+    x : Node
+    x = getD nodes j failedNode
+
+    go : (t : Bool) → leb (suc j) (length old) ≡ t → LockedAs x (cond (t && heldBy c (lockIn x)) (cond (Node.isExp l) Exp Unl) (lockIn x)) (getD (restored c old nodes) j failedNode)
+    go true q =
+        rw (restored-first c old nodes j (leb-true (suc j) (length old) q), ← held-is c x c1)
+        (one-test (Node.heldBy c x) (given-as x l (unl-or-exp old e j)) (as-it-is x))
+    go false q = rw (restored-rest c old nodes j (let a = leb-false (suc j) (length old) q in omega arith)) (as-it-is x)
+
+-- one record set
+set-as : (nodes : List Node) (i : ℕ) (l : Lock) (y : Node) → 1 ≤ i → i ≤ length nodes → LockedAs (nodeAt nodes i) l y →
+    (j : ℕ) → LockedAs (nodeAt nodes j) (upd (λ j. lockIn (nodeAt nodes j)) i l j) (nodeAt (setAt nodes i y) j)
+set-as nodes i l y a b v j = rw (ap (λ (f : ℕ → Node). f j) (set-column (λ (x : Node). x) failedNode nodes i y a b)) (place j)
+  where
+    place : (j : ℕ) → LockedAs (nodeAt nodes j) (upd (λ j. lockIn (nodeAt nodes j)) i l j) (upd (nodeAt nodes) i y j)
+    place =
+        each-place (λ j. LockedAs (nodeAt nodes j) (upd (λ j. lockIn (nodeAt nodes j)) i l j) (upd (nodeAt nodes) i y j)) i
+        (rw (upd-same (λ j. lockIn (nodeAt nodes j)) i l, upd-same (nodeAt nodes) i y) v)
+        (λ j ne. rw (upd-other (λ j. lockIn (nodeAt nodes j)) i l j ne, upd-other (nodeAt nodes) i y j ne) (as-it-is (nodeAt nodes j)))
+
+-- what a call on the whole stripe has tested before it looks at the phase
+record Tested (z : Sizes) (c : ℕ) (p : Rebuild) : Type 0 where
+  low : 1 ≤ c
+  high : c ≤ z .m
+  within : rebuildWithin z p ≡ true
+
+-- n blocks
+record IsTable (z : Sizes) (t : List ℕ) : Type 0 where
+  size : length t ≡ z .n * z .b
+  bytes : Bytes t
+
+module _ (z : Sizes) (L : Laws (ops z)) (h : Ledger Block) (s : Stripe) (g : Good (ops z) h (columns z s)) (f : Fits z s) (c : ℕ) where
+  abbrev C : Columns Block
+  C = columns z s
+
+  abbrev w : Whole
+  w = whole c s
+
+  abbrev client : Records.Client
+  client = clientAt (s .clients) c
+
+  -- of a call x, and the phase p that it finds
+  abbrev KeptBy : Call → Outcome Whole → Type 0
+  KeptBy x = KeptWhole z h s g f x c
+
+  abbrev In : Rebuild → Type 0
+  In p = (C .phase c ≡ p) × Tested z c p
+
+  refuses : (x : Call) (why : Refusal) → KeptBy x (refused why w)
+  refuses x why = whole-refused z h s g f x c why
+
+  begins : (x : Call) (test : Bool) (rest : Rebuild → Outcome Whole) → (test ≡ false → outOfLimits z w ≡ false) → ((p : Rebuild) → In p → KeptBy x (rest p)) →
+      KeptBy x (guard test OutOfLimits w (guard (not (isClient z c)) OutOfRange w (rest (C .phase c))))
+  unfolding clientWithin
+  begins x test rest limits k =
+      whole-guard z h s g f x c test OutOfLimits (guard (not (isClient z c)) OutOfRange w (rest (C .phase c)))
+      (λ e. whole-guard z h s g f x c (not (isClient z c)) OutOfRange (rest (C .phase c))
+      (λ r.
+      let l : (sizesWithin z && (nodesFit z (s .nodes) && clientWithin z client)) ≡ true = not-false _ (limits e) in
+      let i : isClient z c ≡ true = not-false _ r in
+      k (C .phase c) (refl, record { low = search (and-left, leb-true); high = search (and-right, leb-true); within = search (and-left, and-right) })))
+
+  module _ {p : Rebuild} (t : Tested z c p) where
+    ---- what a call leaves
+    -- the columns are C' when c's record becomes y
+    put-kept : (x : Call) (a : Answer) (nodes' : List Node) (y : Records.Client) (blocks' spare' : List ℕ) → length nodes' ≡ z .n → IsTable z blocks' → IsTable z spare' → (C' : Columns Block) →
+        withClient (columns z (record { nodes = nodes'; clients = s .clients; blocks = blocks'; spare = spare'; differences = s .differences })) c y ≡ C' →
+        Good (ops z) (note (ops z) h (entry z x a) (C' .block)) C' → KeptBy x (answered a (record { nodes = nodes'; client = y; blocks = blocks'; spare = spare' }))
+    put-kept x a nodes' y blocks' spare' ln bt st C' same good =
+        record {
+          good = subst (λ D. Good (ops z) (note (ops z) h (entry z x a) (D .block)) D) (sym (put-client z s' c y (t .low) (rw (f .clients) (t .high)) ∙ same)) good;
+          fits = record {
+            nodes = ln;
+            clients = length-setAt (s .clients) c y ∙ f .clients;
+            blocks = bt .size;
+            spare = st .size;
+            differences = f .differences;
+            blocks-bytes = bt .bytes;
+            spare-bytes = st .bytes;
+            differences-bytes = f .differences-bytes;
+          };
+        }
+      where
+        s' : Stripe
+        s' = record { nodes = nodes'; clients = s .clients; blocks = blocks'; spare = spare'; differences = s .differences }
+
+    blocks-table : IsTable z (s .blocks)
+    blocks-table = record { size = f .blocks; bytes = f .blocks-bytes }
+
+    spare-table : IsTable z (s .spare)
+    spare-table = record { size = f .spare; bytes = f .spare-bytes }
+
+    ---- locks and c's phase
+    relock-columns : (nodes' : List Node) (lock' : ℕ → Lock) → ((j : ℕ) → LockedAs (nodeAt (s .nodes) j) (lock' j) (nodeAt nodes' j)) → columns z (withNodes s nodes') ≡ setLocks lock' C
+    relock-columns nodes' lock' each =
+        λ i. record {
+          block = C .block;
+          op = fun-ext (λ j. each j .opmode) i;
+          lock = fun-ext (λ j. each j .lock) i;
+          epoch = fun-ext (λ j. ap (λ (e : Epoch). e .0) (each j .epoch)) i;
+          rset = fun-ext (λ j. each j .rset) i;
+          entries = fun-ext (λ j. each j .entries) i;
+          hand = C .hand;
+          phase = C .phase;
+          finished = C .finished;
+          next = C .next;
+          difference = C .difference;
+          spare = C .spare;
+        }
+
+    relock-kept : (x : Call) (a : Answer) (nodes' : List Node) (lock' : ℕ → Lock) (p' : Rebuild) → length nodes' ≡ z .n → ((j : ℕ) → LockedAs (nodeAt (s .nodes) j) (lock' j) (nodeAt nodes' j)) →
+        Good (ops z) (note (ops z) h (entry z x a) (C .block)) (relocked c lock' p' C) → KeptBy x (answered a (advanced nodes' p' w))
+    relock-kept x a nodes' lock' p' ln each good =
+        put-kept x a nodes' (withRebuild p' client) (s .blocks) (s .spare) ln blocks-table spare-table (relocked c lock' p' C)
+        (ap (λ D. withClient D c (withRebuild p' client)) (relock-columns nodes' lock' each) ∙ rw (upd-keep (C .hand) c, upd-keep (C .finished) c, upd-keep (C .next) c)) good
+
+    -- node j is set
+    set-kept : (x : Call) (a : Answer) (j : ℕ) (l : Lmode) (o : Holder) (p' : Rebuild) → 1 ≤ j → j ≤ z .n → Good (ops z) (note (ops z) h (entry z x a) (C .block)) (relocked c (upd (C .lock) j (lockOf l o)) p' C) →
+        KeptBy x (answered a (advanced (setAt (s .nodes) j (withLmode (nodeAt (s .nodes) j) l o)) p' w))
+    set-kept x a j l o p' j1 jn =
+        relock-kept x a (setAt (s .nodes) j y) (upd (C .lock) j (lockOf l o)) p' (length-setAt (s .nodes) j y ∙ f .nodes)
+        (set-as (s .nodes) j (lockOf l o) y j1 (rw (f .nodes) jn) (with-lmode (nodeAt (s .nodes) j) l o))
+      where
+        y : Node
+        y = withLmode (nodeAt (s .nodes) j) l o
+
+    expired-each : (j : ℕ) → LockedAs (nodeAt (s .nodes) j) (expired c (C .lock j)) (nodeAt (map (expiredFor c) (s .nodes)) j)
+    expired-each j = rw (map-at failedNode (expiredFor c) refl (s .nodes) j) (expired-as c (nodeAt (s .nodes) j) (t .low))
+
+    lost-kept : (x : Call) (a : Answer) → Good (ops z) (note (ops z) h (entry z x a) (C .block)) (lost c C) → KeptBy x (answered a (Rebuild.lost c w))
+    lost-kept x a = relock-kept x a (map (expiredFor c) (s .nodes)) (λ j. expired c (C .lock j)) NoRebuild (length-map (s .nodes) (expiredFor c) ∙ f .nodes) expired-each
+
+    -- "10: a rebuild call after Lock meets a needed node not held by c"
+    needing : (x : Call) (held : Bool) (rest : Outcome Whole) → (held ≡ true → KeptBy x rest) → KeptBy x (holding held c w rest)
+    unfolding holding
+    needing x held rest k = cond-ind (KeptBy x) held rest (answered (Refused NotHeld) (Rebuild.lost c w)) k (λ e. lost-kept x (Refused NotHeld) (lost-good (ops z) h C g c))
+
+    held-at : (j : ℕ) → Node.heldBy c (nodeAt (s .nodes) j) ≡ true → heldBy c (C .lock j) ≡ true
+    held-at j e = sym (held-is c (nodeAt (s .nodes) j) (t .low)) ∙ e
+
+    all-held : everyOf (Node.heldBy c) (s .nodes) ≡ true → (j : ℕ) → IsNode (ops z) j → heldBy c (C .lock j) ≡ true
+    all-held e j b = held-at j (every-at failedNode (Node.heldBy c) (s .nodes) e j (b .low) (rw (f .nodes) (b .high)))
+
+  ---- Lock
+  next-lock : {p : Rebuild} → Tested z c p → (old : List Lmode) → LocksNext (C .phase c) old → unlOrExp old ≡ true → length old < z .n → KeptBy (Calls.Lock c) (Rebuild.lockNode z c old w)
+  unfolding Rebuild.lockNode
+  next-lock t old next e more =
+      rw (add-one (length old))
+      (cond-ind (KeptBy (Calls.Lock c)) (Node.isL0 (x .lmode) || Node.isL1 (x .lmode))
+      (answered (Refused Locked) (advanced (restored c old (s .nodes)) NoRebuild w)) (answered Accepted (advanced (setAt (s .nodes) j (lockedBy c x)) p' w))
+      (λ q. relock-kept t (Calls.Lock c) (Refused Locked) (restored c old (s .nodes)) (λ j. givenBack c old j (C .lock j)) NoRebuild (length-restored c old (s .nodes) ∙ f .nodes)
+      (restored-as c (t .low) old e (s .nodes)) (gaveBack-good (ops z) h C g c old next))
+      (λ q. set-kept t (Calls.Lock c) Accepted j Lmode.L1 (Client c) p' (omega arith) more (locked-good (ops z) h C g c old next (x .lmode) (exp-is x) (sym (locked-is x) ∙ q))))
+    where
+      j : ℕ
+      j = suc (length old)
+
+      x : Node
+      x = nodeAt (s .nodes) j
+
+      p' : Rebuild
+      p' = cond (leb (z .n) j) (Picking 0) (Locking (old ++ (x .lmode ∷ [])))
+
+  pub lock-kept : Kept z h (Calls.Lock c) (step z (Calls.Lock c) s)
+  unfolding step Rebuild.lock Rebuild.lockIn unlOrExp
+  lock-kept = begins (Calls.Lock c) (outOfLimits z w) (λ p. Rebuild.lockIn z c p w) (λ e. e) go
+    where
+      go : (p : Rebuild) → In p → KeptBy (Calls.Lock c) (Rebuild.lockIn z c p w)
+      go NoRebuild (p, t) = next-lock t [] (inr (p, refl)) refl (omega (arith, L .k-n))
+      go (Locking old) (p, t) = next-lock t old (inl p) (let e = t .within in search (and-left, and-right)) (let e = t .within in search (and-left, and-right, ltb-true))
+      go (Picking y) p = refuses (Calls.Lock c) OutOfPhase
+      go (Writing y u e) p = refuses (Calls.Lock c) OutOfPhase
+      go (Settling y e) p = refuses (Calls.Lock c) OutOfPhase
+      go (Unlocking y) p = refuses (Calls.Lock c) OutOfPhase
