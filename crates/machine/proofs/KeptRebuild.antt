@@ -8,7 +8,7 @@ use native.Mathlib.Numerals.{add-one}
 use native.Mathlib.Omega.{arith}
 use lib.Dec.{eqb, leb, ltb}
 use lib.ListN.{length, getD, length-map, length-set}
-use borrow.Author.Tests.{leb-true, leb-false, ltb-true, not-false}
+use borrow.Author.Tests.{leb-true, leb-false, ltb-true, eqb-true, not-false}
 use Rattle.blocks.specs.Blocks.{Bytes}
 use Rattle.records.specs.declared.Sizes.{Sizes}
 use Rattle.records.specs.declared.Epoch.{Epoch}
@@ -19,25 +19,26 @@ use Rattle.records.specs.declared.Holder.the-variants.{Nobody, Client}
 use Rattle.records.specs.declared.Refusal.{Refusal}
 use Rattle.records.specs.declared.Refusal.the-variants.{OutOfLimits, OutOfRange, OutOfPhase, NotHeld, Locked}
 use Rattle.records.specs.Sizes.{sizesWithin, isClient}
-use Rattle.records.specs.Node.{Node, withLmode, expiredFor, failedNode, lockedBy}
+use Rattle.records.specs.Node.{Node, withLmode, expiredFor, failedNode, lockedBy, weakenedBy}
 use Rattle.records.specs.Node as Node
 use Rattle.records.specs.Client as Records
-use Rattle.records.specs.Client.{Rebuild, NoRebuild, Locking, Picking, Writing, Settling, Unlocking, withRebuild, unlOrExp, rebuildWithin, clientWithin}
+use Rattle.records.specs.Client.{Rebuild, NoRebuild, Locking, Picking, Writing, Settling, Unlocking, hasRebuild, withRebuild, unlOrExp, rebuildWithin, clientWithin}
 use Rattle.machine.specs.Stripe.{Stripe, Answer, Accepted, Refused, Outcome, Whole, answered, refused, guard, elementAt, nodeAt, clientAt, setAt, whole, putWhole, nodesFit, everyOf}
 use Rattle.machine.specs.Calls.{Call, step}
 use Rattle.machine.specs.Calls as Calls
 use Rattle.machine.specs.Rebuild as Rebuild
-use Rattle.machine.specs.Rebuild.{advanced, holding, outOfLimits, restored}
+use Rattle.machine.specs.Rebuild.{advanced, holding, outOfLimits, restored, someRecons}
+use Rattle.machine.specs.Writing.{stop}
 use Rattle.gf256.proofs.Computed.{and-left, and-right}
-use Rattle.machine.proofs.Base.{upd, upd-same, upd-other, each-place, clash, cond-ind}
-use Rattle.machine.proofs.Columns.{Columns, Lock, Unl, Exp, heldBy, setLocks}
+use Rattle.machine.proofs.Base.{upd, upd-same, upd-other, each-place, clash, or-one, cond-ind}
+use Rattle.machine.proofs.Columns.{Columns, Lock, Unl, Exp, L0, heldBy, setLocks}
 use Rattle.machine.proofs.Ledger.{Ledger, note}
 use Rattle.machine.proofs.Invariant.{Laws, IsNode, Good, wasExp}
 use Rattle.machine.proofs.Bytes.{Block, blockOf, ops}
 use Rattle.machine.proofs.View.{columns, lockOf, lockIn, withClient, withNodes, withClients, put-client, set-column, upd-keep, held-is, locked-is, exp-is}
 use Rattle.machine.proofs.Kept.{Fits, Kept, KeptWhole, entry, whole-refused, whole-guard}
-use Rattle.machine.proofs.Elements.{length-setAt, every-at, map-at, length-restored, restored-first, restored-rest, unl-or-exp}
-use Rattle.machine.proofs.Locks.{expired, givenBack, LocksNext, relocked, lost, lost-good, gaveBack-good, locked-good}
+use Rattle.machine.proofs.Elements.{length-setAt, every-at, none-at, map-at, length-from, from-at, length-restored, restored-first, restored-rest, unl-or-exp}
+use Rattle.machine.proofs.Locks.{expired, givenBack, LocksNext, relocked, lost, stopped, lost-good, stopped-good, gaveBack-good, locked-good, weakened-good, tightened-good, unlocked-good}
 
 ---- a record with another lock
 -- y is x with the lock l
@@ -254,3 +255,85 @@ module _ (z : Sizes) (L : Laws (ops z)) (h : Ledger Block) (s : Stripe) (g : Goo
       go (Writing y u e) p = refuses (Calls.Lock c) OutOfPhase
       go (Settling y e) p = refuses (Calls.Lock c) OutOfPhase
       go (Unlocking y) p = refuses (Calls.Lock c) OutOfPhase
+
+  ---- Weaken, Tighten, Unlock
+  pub weaken-kept : Kept z h (Calls.Weaken c) (step z (Calls.Weaken c) s)
+  unfolding step Rebuild.weaken Rebuild.weakenIn
+  weaken-kept = begins (Calls.Weaken c) (outOfLimits z w) (λ p. Rebuild.weakenIn z c p w) (λ e. e) go
+    where
+      weakens : In (Picking 0) → someRecons (s .nodes) ≡ false → everyOf (Node.heldBy c) (s .nodes) ≡ true → KeptBy (Calls.Weaken c) (answered Accepted (advanced (Rebuild.weakened z c (s .nodes)) (Picking (z .k + 1)) w))
+      weakens (p, t) none held =
+          rw (add-one (z .k))
+          (relock-kept t (Calls.Weaken c) Accepted (Rebuild.weakened z c (s .nodes)) (λ j. cond (ltb (z .k) j && leb j (z .n)) (L0 c) (C .lock j)) (Picking (suc (z .k)))
+          (length-from failedNode (weakenedBy c) (z .k) (s .nodes) ∙ f .nodes)
+          (λ j. rw (from-at failedNode (weakenedBy c) (z .k) (z .n) (s .nodes) (f .nodes) j) (one-test (ltb (z .k) j && leb j (z .n)) (with-lmode (nodeAt (s .nodes) j) Lmode.L0 (Client c)) (as-it-is (nodeAt (s .nodes) j))))
+          (weakened-good (ops z) h C g c p (all-held t held) (none-at failedNode (λ x. Node.isRecons (x .opmode)) refl (s .nodes) none)))
+
+      go : (p : Rebuild) → In p → KeptBy (Calls.Weaken c) (Rebuild.weakenIn z c p w)
+      go NoRebuild i = refuses (Calls.Weaken c) OutOfPhase
+      go (Locking old) i = refuses (Calls.Weaken c) OutOfPhase
+      go (Picking zero) i =
+          whole-guard z h s g f (Calls.Weaken c) c (someRecons (s .nodes)) OutOfPhase _
+          (λ none. needing (i .1) (Calls.Weaken c) (everyOf (Node.heldBy c) (s .nodes)) _ (λ held. weakens i none held))
+      go (Picking (suc y)) i = refuses (Calls.Weaken c) OutOfPhase
+      go (Writing y u e) i = refuses (Calls.Weaken c) OutOfPhase
+      go (Settling y e) i = refuses (Calls.Weaken c) OutOfPhase
+      go (Unlocking y) i = refuses (Calls.Weaken c) OutOfPhase
+
+  pub tighten-kept : Kept z h (Calls.Tighten c) (step z (Calls.Tighten c) s)
+  unfolding step Rebuild.tighten Rebuild.tightenIn
+  tighten-kept = begins (Calls.Tighten c) (outOfLimits z w) (λ p. Rebuild.tightenIn z c p w) (λ e. e) go
+    where
+      in-range : (y : ℕ) → rebuildWithin z (Picking (suc y)) ≡ true → suc y ≤ z .n
+      in-range y e = by (or-one (eqb (suc y) 0) (ltb (z .k) (suc y) && leb (suc y) (z .n)) e)
+        where
+          by : (eqb (suc y) 0 ≡ true) ⊎ ((ltb (z .k) (suc y) && leb (suc y) (z .n)) ≡ true) → suc y ≤ z .n
+          by (inl q) = let a = eqb-true (suc y) 0 q in absurd (omega arith)
+          by (inr q) = search (and-right, leb-true)
+
+      go : (p : Rebuild) → In p → KeptBy (Calls.Tighten c) (Rebuild.tightenIn z c p w)
+      go NoRebuild i = refuses (Calls.Tighten c) OutOfPhase
+      go (Locking old) i = refuses (Calls.Tighten c) OutOfPhase
+      go (Picking zero) i = refuses (Calls.Tighten c) OutOfPhase
+      go (Picking (suc y)) (p, t) =
+          needing t (Calls.Tighten c) (Node.heldBy c (nodeAt (s .nodes) (suc y))) _
+          (λ held. rw (add-one (suc y)) (set-kept t (Calls.Tighten c) Accepted (suc y) Lmode.L1 (Client c) (cond (leb (z .n) (suc y)) (Picking 0) (Picking (suc (suc y)))) (omega arith) (in-range y (t .within))
+          (tightened-good (ops z) h C g c y p (held-at t (suc y) held))))
+      go (Writing y u e) i = refuses (Calls.Tighten c) OutOfPhase
+      go (Settling y e) i = refuses (Calls.Tighten c) OutOfPhase
+      go (Unlocking y) i = refuses (Calls.Tighten c) OutOfPhase
+
+  pub unlock-kept : Kept z h (Calls.Unlock c) (step z (Calls.Unlock c) s)
+  unfolding step Rebuild.unlock Rebuild.unlockIn
+  unlock-kept = begins (Calls.Unlock c) (outOfLimits z w) (λ p. Rebuild.unlockIn z c p w) (λ e. e) go
+    where
+      node : (y : ℕ) → rebuildWithin z (Unlocking y) ≡ true → IsNode (ops z) y
+      node y e = record { low = search (and-left, leb-true); high = search (and-right, leb-true) }
+
+      go : (p : Rebuild) → In p → KeptBy (Calls.Unlock c) (Rebuild.unlockIn z c p w)
+      go NoRebuild i = refuses (Calls.Unlock c) OutOfPhase
+      go (Locking old) i = refuses (Calls.Unlock c) OutOfPhase
+      go (Picking y) i = refuses (Calls.Unlock c) OutOfPhase
+      go (Writing y u e) i = refuses (Calls.Unlock c) OutOfPhase
+      go (Settling y e) i = refuses (Calls.Unlock c) OutOfPhase
+      go (Unlocking y) (p, t) =
+          let b = node y (t .within) in
+          needing t (Calls.Unlock c) (Node.heldBy c (nodeAt (s .nodes) y)) _
+          (λ held. rw (add-one y) (set-kept t (Calls.Unlock c) Accepted y Lmode.Unl Nobody (cond (leb (z .n) y) NoRebuild (Unlocking (suc y))) (b .low) (b .high) (unlocked-good (ops z) h C g c y p b (held-at t y held))))
+
+  ---- Quit, Stop
+  pub quit-kept : Kept z h (Calls.Quit c) (step z (Calls.Quit c) s)
+  unfolding step Rebuild.quit
+  quit-kept =
+      begins (Calls.Quit c) (outOfLimits z w) (λ p. guard (not (hasRebuild p)) OutOfPhase w (answered Accepted (Rebuild.lost c w))) (λ e. e)
+      (λ p i. whole-guard z h s g f (Calls.Quit c) c (not (hasRebuild p)) OutOfPhase _ (λ r. lost-kept (i .1) (Calls.Quit c) Accepted (lost-good (ops z) h C g c)))
+
+  pub stop-kept : Kept z h (Calls.Stop c) (step z (Calls.Stop c) s)
+  unfolding step stop
+  stop-kept =
+      begins (Calls.Stop c) (outOfLimits z w) (λ p. answered Accepted (record { nodes = nodes'; client = Records.stopped client; blocks = s .blocks; spare = s .spare })) (λ e. e)
+      (λ p i. put-kept (i .1) (Calls.Stop c) Accepted nodes' (Records.stopped client) (s .blocks) (s .spare) (length-map (s .nodes) (expiredFor c) ∙ f .nodes) (blocks-table (i .1)) (spare-table (i .1)) (stopped c C)
+      (ap (λ D. withClient D c (Records.stopped client)) (relock-columns (i .1) nodes' (λ j. expired c (C .lock j)) (expired-each (i .1))) ∙ rw (upd-keep (C .next) c)) (stopped-good (ops z) h C g c))
+    where
+      nodes' : List Node
+      nodes' = map (expiredFor c) (s .nodes)
