@@ -9,7 +9,8 @@ use native.Mathlib.Omega.{arith}
 use lib.Dec.{eqb, leb, ltb}
 use lib.ListN.{length, getD, length-map, length-set}
 use borrow.Author.Tests.{leb-true, leb-false, ltb-true, eqb-true, not-false}
-use Rattle.blocks.specs.Blocks.{Bytes}
+use Rattle.blocks.specs.Blocks.{block, setBlock, Bytes}
+use Rattle.code.specs.Decode.{NodeSet}
 use Rattle.records.specs.declared.Sizes.{Sizes}
 use Rattle.records.specs.declared.Epoch.{Epoch}
 use Rattle.records.specs.declared.Lmode.{Lmode}
@@ -18,27 +19,31 @@ use Rattle.records.specs.declared.Holder.{Holder}
 use Rattle.records.specs.declared.Holder.the-variants.{Nobody, Client}
 use Rattle.records.specs.declared.Refusal.{Refusal}
 use Rattle.records.specs.declared.Refusal.the-variants.{OutOfLimits, OutOfRange, OutOfPhase, NotHeld, Locked}
-use Rattle.records.specs.Sizes.{sizesWithin, isClient}
+use Rattle.records.specs.Sizes.{sizesWithin, isNode, isClient}
 use Rattle.records.specs.Node.{Node, withLmode, expiredFor, failedNode, lockedBy, weakenedBy}
 use Rattle.records.specs.Node as Node
 use Rattle.records.specs.Client as Records
 use Rattle.records.specs.Client.{Rebuild, NoRebuild, Locking, Picking, Writing, Settling, Unlocking, hasRebuild, withRebuild, unlOrExp, rebuildWithin, clientWithin}
-use Rattle.machine.specs.Stripe.{Stripe, Answer, Accepted, Refused, Outcome, Whole, answered, refused, guard, elementAt, nodeAt, clientAt, setAt, whole, putWhole, nodesFit, everyOf}
+use Rattle.machine.specs.Stripe.{Stripe, Answer, Accepted, Rebuilt, Refused, Outcome, Whole, answered, refused, guard, elementAt, nodeAt, clientAt, setAt, whole, putWhole, blocksFit, nodesFit, everyOf}
 use Rattle.machine.specs.Calls.{Call, step}
 use Rattle.machine.specs.Calls as Calls
 use Rattle.machine.specs.Rebuild as Rebuild
 use Rattle.machine.specs.Rebuild.{advanced, holding, outOfLimits, restored, someRecons}
 use Rattle.machine.specs.Writing.{stop}
 use Rattle.gf256.proofs.Computed.{and-left, and-right}
-use Rattle.machine.proofs.Base.{upd, upd-same, upd-other, each-place, clash, or-one, cond-ind}
-use Rattle.machine.proofs.Columns.{Columns, Lock, Unl, Exp, L0, heldBy, setLocks}
+use Rattle.machine.proofs.Base.{upd, clash, or-one, or-none, cond-ind}
+use Rattle.machine.proofs.Columns.{Columns, Lock, Unl, Exp, L0, heldBy, setBlocks, setLocks, setPhases}
+use Rattle.machine.proofs.Ledger as Ledger
 use Rattle.machine.proofs.Ledger.{Ledger, note}
 use Rattle.machine.proofs.Invariant.{Laws, IsNode, Good, wasExp}
 use Rattle.machine.proofs.Bytes.{Block, blockOf, ops}
-use Rattle.machine.proofs.View.{columns, lockOf, lockIn, withClient, withNodes, withClients, put-client, set-column, upd-keep, held-is, locked-is, exp-is}
+use Rattle.machine.proofs.View.{columns, lockOf, lockIn, withNode, withClient, withNodes, put-node, put-client, upd-keep, held-is, locked-is, exp-is}
 use Rattle.machine.proofs.Kept.{Fits, Kept, KeptWhole, entry, whole-refused, whole-guard}
+use Rattle.machine.proofs.Tables.{put-block, length-put, length-block, bytes-put, bytes-block, block-view}
 use Rattle.machine.proofs.Elements.{length-setAt, every-at, none-at, map-at, length-from, from-at, length-restored, restored-first, restored-rest, unl-or-exp}
 use Rattle.machine.proofs.Locks.{expired, givenBack, LocksNext, relocked, lost, stopped, lost-good, stopped-good, gaveBack-good, locked-good, weakened-good, tightened-good, unlocked-good}
+use Rattle.machine.proofs.Write.{written, written-good}
+use Rattle.machine.proofs.Settle.{settled, settled-good}
 
 ---- a record with another lock
 -- y is x with the lock l
@@ -90,17 +95,6 @@ restored-as c c1 old e nodes (suc j) = go (leb (suc j) (length old)) refl
         (one-test (Node.heldBy c x) (given-as x l (unl-or-exp old e j)) (as-it-is x))
     go false q = rw (restored-rest c old nodes j (let a = leb-false (suc j) (length old) q in omega arith)) (as-it-is x)
 
--- one record set
-set-as : (nodes : List Node) (i : ℕ) (l : Lock) (y : Node) → 1 ≤ i → i ≤ length nodes → LockedAs (nodeAt nodes i) l y →
-    (j : ℕ) → LockedAs (nodeAt nodes j) (upd (λ j. lockIn (nodeAt nodes j)) i l j) (nodeAt (setAt nodes i y) j)
-set-as nodes i l y a b v j = rw (ap (λ (f : ℕ → Node). f j) (set-column (λ (x : Node). x) failedNode nodes i y a b)) (place j)
-  where
-    place : (j : ℕ) → LockedAs (nodeAt nodes j) (upd (λ j. lockIn (nodeAt nodes j)) i l j) (upd (nodeAt nodes) i y j)
-    place =
-        each-place (λ j. LockedAs (nodeAt nodes j) (upd (λ j. lockIn (nodeAt nodes j)) i l j) (upd (nodeAt nodes) i y j)) i
-        (rw (upd-same (λ j. lockIn (nodeAt nodes j)) i l, upd-same (nodeAt nodes) i y) v)
-        (λ j ne. rw (upd-other (λ j. lockIn (nodeAt nodes j)) i l j ne, upd-other (nodeAt nodes) i y j ne) (as-it-is (nodeAt nodes j)))
-
 -- what a call on the whole stripe has tested before it looks at the phase
 record Tested (z : Sizes) (c : ℕ) (p : Rebuild) : Type 0 where
   low : 1 ≤ c
@@ -128,6 +122,9 @@ module _ (z : Sizes) (L : Laws (ops z)) (h : Ledger Block) (s : Stripe) (g : Goo
 
   abbrev In : Rebuild → Type 0
   In p = (C .phase c ≡ p) × Tested z c p
+
+  node : (j : ℕ) → isNode z j ≡ true → IsNode (ops z) j
+  node j e = record { low = search (and-left, leb-true); high = search (and-right, leb-true) }
 
   refuses : (x : Call) (why : Refusal) → KeptBy x (refused why w)
   refuses x why = whole-refused z h s g f x c why
@@ -197,15 +194,25 @@ module _ (z : Sizes) (L : Laws (ops z)) (h : Ledger Block) (s : Stripe) (g : Goo
         put-kept x a nodes' (withRebuild p' client) (s .blocks) (s .spare) ln blocks-table spare-table (relocked c lock' p' C)
         (ap (λ D. withClient D c (withRebuild p' client)) (relock-columns nodes' lock' each) ∙ rw (upd-keep (C .hand) c, upd-keep (C .finished) c, upd-keep (C .next) c)) good
 
-    -- node j is set
-    set-kept : (x : Call) (a : Answer) (j : ℕ) (l : Lmode) (o : Holder) (p' : Rebuild) → 1 ≤ j → j ≤ z .n → Good (ops z) (note (ops z) h (entry z x a) (C .block)) (relocked c (upd (C .lock) j (lockOf l o)) p' C) →
-        KeptBy x (answered a (advanced (setAt (s .nodes) j (withLmode (nodeAt (s .nodes) j) l o)) p' w))
-    set-kept x a j l o p' j1 jn =
-        relock-kept x a (setAt (s .nodes) j y) (upd (C .lock) j (lockOf l o)) p' (length-setAt (s .nodes) j y ∙ f .nodes)
-        (set-as (s .nodes) j (lockOf l o) y j1 (rw (f .nodes) jn) (with-lmode (nodeAt (s .nodes) j) l o))
+    ---- node j's record becomes y, and the blocks others
+    set-kept : (x : Call) (a : Answer) (j : ℕ) (y : Node) (p' : Rebuild) (blocks' : List ℕ) → IsNode (ops z) j → IsTable z blocks' → (C' : Columns Block) →
+        setPhases (upd (C .phase) c p') (withNode (setBlocks (blockOf (z .b) blocks') C) j y) ≡ C' → Good (ops z) (note (ops z) h (entry z x a) (C' .block)) C' →
+        KeptBy x (answered a (record { nodes = setAt (s .nodes) j y; client = withRebuild p' client; blocks = blocks'; spare = s .spare }))
+    set-kept x a j y p' blocks' b bt C' same =
+        put-kept x a (setAt (s .nodes) j y) (withRebuild p' client) blocks' (s .spare) (length-setAt (s .nodes) j y ∙ f .nodes) bt spare-table C'
+        (ap (λ D. withClient D c (withRebuild p' client)) (put-node z tables j y (b .low) (rw (f .nodes) (b .high)))
+        ∙ rw (upd-keep (C .hand) c, upd-keep (C .finished) c, upd-keep (C .next) c) same)
       where
-        y : Node
-        y = withLmode (nodeAt (s .nodes) j) l o
+        tables : Stripe
+        tables = record { nodes = s .nodes; clients = s .clients; blocks = blocks'; spare = s .spare; differences = s .differences }
+
+    -- its lock alone
+    lock-set-kept : (x : Call) (a : Answer) (j : ℕ) (l : Lmode) (o : Holder) (p' : Rebuild) → IsNode (ops z) j →
+        Good (ops z) (note (ops z) h (entry z x a) (C .block)) (relocked c (upd (C .lock) j (lockOf l o)) p' C) →
+        KeptBy x (answered a (advanced (setAt (s .nodes) j (withLmode (nodeAt (s .nodes) j) l o)) p' w))
+    lock-set-kept x a j l o p' b =
+        set-kept x a j (withLmode (nodeAt (s .nodes) j) l o) p' (s .blocks) b blocks-table (relocked c (upd (C .lock) j (lockOf l o)) p' C)
+        (rw (upd-keep (C .op) j, upd-keep (C .epoch) j, upd-keep (C .rset) j, upd-keep (C .entries) j))
 
     expired-each : (j : ℕ) → LockedAs (nodeAt (s .nodes) j) (expired c (C .lock j)) (nodeAt (map (expiredFor c) (s .nodes)) j)
     expired-each j = rw (map-at failedNode (expiredFor c) refl (s .nodes) j) (expired-as c (nodeAt (s .nodes) j) (t .low))
@@ -233,7 +240,7 @@ module _ (z : Sizes) (L : Laws (ops z)) (h : Ledger Block) (s : Stripe) (g : Goo
       (answered (Refused Locked) (advanced (restored c old (s .nodes)) NoRebuild w)) (answered Accepted (advanced (setAt (s .nodes) j (lockedBy c x)) p' w))
       (λ q. relock-kept t (Calls.Lock c) (Refused Locked) (restored c old (s .nodes)) (λ j. givenBack c old j (C .lock j)) NoRebuild (length-restored c old (s .nodes) ∙ f .nodes)
       (restored-as c (t .low) old e (s .nodes)) (gaveBack-good (ops z) h C g c old next))
-      (λ q. set-kept t (Calls.Lock c) Accepted j Lmode.L1 (Client c) p' (omega arith) more (locked-good (ops z) h C g c old next (x .lmode) (exp-is x) (sym (locked-is x) ∙ q))))
+      (λ q. lock-set-kept t (Calls.Lock c) Accepted j Lmode.L1 (Client c) p' (record { low = omega arith; high = more }) (locked-good (ops z) h C g c old next (x .lmode) (exp-is x) (sym (locked-is x) ∙ q))))
     where
       j : ℕ
       j = suc (length old)
@@ -297,7 +304,7 @@ module _ (z : Sizes) (L : Laws (ops z)) (h : Ledger Block) (s : Stripe) (g : Goo
       go (Picking zero) i = refuses (Calls.Tighten c) OutOfPhase
       go (Picking (suc y)) (p, t) =
           needing t (Calls.Tighten c) (Node.heldBy c (nodeAt (s .nodes) (suc y))) _
-          (λ held. rw (add-one (suc y)) (set-kept t (Calls.Tighten c) Accepted (suc y) Lmode.L1 (Client c) (cond (leb (z .n) (suc y)) (Picking 0) (Picking (suc (suc y)))) (omega arith) (in-range y (t .within))
+          (λ held. rw (add-one (suc y)) (lock-set-kept t (Calls.Tighten c) Accepted (suc y) Lmode.L1 (Client c) (cond (leb (z .n) (suc y)) (Picking 0) (Picking (suc (suc y)))) (record { low = omega arith; high = in-range y (t .within) })
           (tightened-good (ops z) h C g c y p (held-at t (suc y) held))))
       go (Writing y u e) i = refuses (Calls.Tighten c) OutOfPhase
       go (Settling y e) i = refuses (Calls.Tighten c) OutOfPhase
@@ -307,9 +314,6 @@ module _ (z : Sizes) (L : Laws (ops z)) (h : Ledger Block) (s : Stripe) (g : Goo
   unfolding step Rebuild.unlock Rebuild.unlockIn
   unlock-kept = begins (Calls.Unlock c) (outOfLimits z w) (λ p. Rebuild.unlockIn z c p w) (λ e. e) go
     where
-      node : (y : ℕ) → rebuildWithin z (Unlocking y) ≡ true → IsNode (ops z) y
-      node y e = record { low = search (and-left, leb-true); high = search (and-right, leb-true) }
-
       go : (p : Rebuild) → In p → KeptBy (Calls.Unlock c) (Rebuild.unlockIn z c p w)
       go NoRebuild i = refuses (Calls.Unlock c) OutOfPhase
       go (Locking old) i = refuses (Calls.Unlock c) OutOfPhase
@@ -319,7 +323,7 @@ module _ (z : Sizes) (L : Laws (ops z)) (h : Ledger Block) (s : Stripe) (g : Goo
       go (Unlocking y) (p, t) =
           let b = node y (t .within) in
           needing t (Calls.Unlock c) (Node.heldBy c (nodeAt (s .nodes) y)) _
-          (λ held. rw (add-one y) (set-kept t (Calls.Unlock c) Accepted y Lmode.Unl Nobody (cond (leb (z .n) y) NoRebuild (Unlocking (suc y))) (b .low) (b .high) (unlocked-good (ops z) h C g c y p b (held-at t y held))))
+          (λ held. rw (add-one y) (lock-set-kept t (Calls.Unlock c) Accepted y Lmode.Unl Nobody (cond (leb (z .n) y) NoRebuild (Unlocking (suc y))) b (unlocked-good (ops z) h C g c y p b (held-at t y held))))
 
   ---- Quit, Stop
   pub quit-kept : Kept z h (Calls.Quit c) (step z (Calls.Quit c) s)
@@ -337,3 +341,63 @@ module _ (z : Sizes) (L : Laws (ops z)) (h : Ledger Block) (s : Stripe) (g : Goo
     where
       nodes' : List Node
       nodes' = map (expiredFor c) (s .nodes)
+
+  ---- Write, Settle
+  module _ (j : ℕ) (set : NodeSet) (e : Epoch) (i : In (Writing j set e)) where
+    writing-node : IsNode (ops z) j
+    writing-node = node j (let within = i .1 .within in search (and-left))
+
+    abbrev v : List ℕ
+    v = block (z .b) j (s .spare)
+
+    length-v : length v ≡ z .b
+    length-v = length-block (z .b) (z .n) j (s .spare) (writing-node .low) (writing-node .high) (f .spare)
+
+    writes : Node.heldBy c (nodeAt (s .nodes) j) ≡ true → KeptBy (Calls.Write c) (answered Accepted (Rebuild.writtenAt z j set e w))
+    writes held =
+        rw (add-one j)
+        (set-kept (i .1) (Calls.Write c) Accepted j (Node.written e set (nodeAt (s .nodes) j)) (cond (leb (z .n) j) (Settling 1 e) (Writing (suc j) set e)) (setBlock (z .b) j v (s .blocks)) writing-node
+        (record {
+          size = length-put (z .b) (z .n) j v (s .blocks) (writing-node .low) (writing-node .high) (f .blocks) length-v;
+          bytes = bytes-put (z .b) j v (s .blocks) (bytes-block (z .b) j (s .spare) (f .spare-bytes)) (f .blocks-bytes);
+        })
+        (written (ops z) c j set e C)
+        (rw (upd-keep (C .lock) j, upd-keep (C .entries) j, put-block (z .b) (z .n) j v (s .blocks) (writing-node .low) (writing-node .high) (f .blocks) length-v, ← block-view (z .b) (s .spare) j (writing-node .low)))
+        (written-good (ops z) L h C g c j set e (i .0) (held-at (i .1) j held)))
+
+  pub write-kept : Kept z h (Calls.Write c) (step z (Calls.Write c) s)
+  unfolding step Rebuild.write Rebuild.writeIn
+  write-kept = begins (Calls.Write c) (outOfLimits z w || not (blocksFit z (s .blocks) && blocksFit z (s .spare))) (λ p. Rebuild.writeIn z c p w) (λ e. or-none (outOfLimits z w) _ e .0) go
+    where
+      go : (p : Rebuild) → In p → KeptBy (Calls.Write c) (Rebuild.writeIn z c p w)
+      go NoRebuild i = refuses (Calls.Write c) OutOfPhase
+      go (Locking old) i = refuses (Calls.Write c) OutOfPhase
+      go (Picking y) i = refuses (Calls.Write c) OutOfPhase
+      go (Writing j set e) i = needing (i .1) (Calls.Write c) (Node.heldBy c (nodeAt (s .nodes) j)) _ (writes j set e i)
+      go (Settling y e) i = refuses (Calls.Write c) OutOfPhase
+      go (Unlocking y) i = refuses (Calls.Write c) OutOfPhase
+
+  -- accepted with either answer
+  settle-entry : (t : Bool) → entry z (Calls.Settle c) (cond t Rebuilt Accepted) ≡ Ledger.Settle c
+  settle-entry true = refl
+  settle-entry false = refl
+
+  settles : (j : ℕ) (e : Epoch) → In (Settling j e) → everyOf (Node.heldBy c) (s .nodes) ≡ true →
+      KeptBy (Calls.Settle c) (answered (cond (leb (z .n) j) Rebuilt Accepted) (advanced (setAt (s .nodes) j (Node.settled e (nodeAt (s .nodes) j))) (cond (leb (z .n) j) (Unlocking 1) (Settling (j + 1) e)) w))
+  settles j e i held =
+      rw (add-one j)
+      (set-kept (i .1) (Calls.Settle c) (cond (leb (z .n) j) Rebuilt Accepted) j (Node.settled e (nodeAt (s .nodes) j)) (cond (leb (z .n) j) (Unlocking 1) (Settling (suc j) e)) (s .blocks)
+      (node j (let within = i .1 .within in search (and-left))) (blocks-table (i .1)) (settled (ops z) c j e C) (rw (upd-keep (C .lock) j, add-one (e .0)))
+      (rw (settle-entry (leb (z .n) j)) (settled-good (ops z) L h C g c j e (i .0) (all-held (i .1) held))))
+
+  pub settle-kept : Kept z h (Calls.Settle c) (step z (Calls.Settle c) s)
+  unfolding step Rebuild.settle Rebuild.settleIn
+  settle-kept = begins (Calls.Settle c) (outOfLimits z w) (λ p. Rebuild.settleIn z c p w) (λ e. e) go
+    where
+      go : (p : Rebuild) → In p → KeptBy (Calls.Settle c) (Rebuild.settleIn z c p w)
+      go NoRebuild i = refuses (Calls.Settle c) OutOfPhase
+      go (Locking old) i = refuses (Calls.Settle c) OutOfPhase
+      go (Picking y) i = refuses (Calls.Settle c) OutOfPhase
+      go (Writing y u e) i = refuses (Calls.Settle c) OutOfPhase
+      go (Settling j e) i = needing (i .1) (Calls.Settle c) (everyOf (Node.heldBy c) (s .nodes)) _ (settles j e i)
+      go (Unlocking y) i = refuses (Calls.Settle c) OutOfPhase
