@@ -16,5 +16,6 @@ pub mod Bytes
 pub mod View
 pub mod Kept
 pub mod Tables
+pub mod KeptWriting
 pub mod Limits
 pub mod Examples
