@@ -16,7 +16,9 @@ use Rattle.code.specs.Decode.{NodeSet, has, each, including}
 use Rattle.records.specs.declared.Sizes.{Sizes}
 use Rattle.records.specs.declared.Entry.{Entry}
 use Rattle.records.specs.declared.Refusal.{Refusal}
-use Rattle.records.specs.Entries.{enter}
+use Rattle.records.specs.declared.Previous.{Previous}
+use Rattle.records.specs.declared.Previous.the-variants.{Nothing, Id}
+use Rattle.records.specs.Entries.{enter, isListed, isRecentIn}
 use Rattle.records.specs.Sizes.{sizesWithin, isClient, isPosition, isNode, isRedundant}
 use Rattle.records.specs.Node.{Node, withEntries, failedNode, nodeWithin}
 use Rattle.records.specs.Node as Node
@@ -33,7 +35,7 @@ use Rattle.machine.proofs.View.{columns, withNode, withClient, withNode
 use Rattle.machine.proofs.Tables.{put-block, length-put, bytes-put, bytes-block, length-block, bytes-difference, length-difference, view-difference, bytes-add, length-add, view-add, block-view}
 use Rattle.machine.proofs.Kept.{Fits, Kept, entry, KeptAt, at-refused, at-guard}
 use Rattle.machine.proofs.Sets.{each-at}
-use Rattle.machine.proofs.Add.{MayAdd, addedTo, add-more-good, add-done-good}
+use Rattle.machine.proofs.Add.{previousListed, MayAdd, addedTo, add-more-good, add-done-good}
 use Rattle.machine.proofs.Swap.{newId, newWrite, swapped, swap-good}
 
 -- a number between two
@@ -191,3 +193,30 @@ module _ (z : Sizes) (L : Laws (ops z)) (h : Ledger Block) (s : Stripe) (g : Goo
           (answered Added (Writing.addedTo z c j w (withHand (some (Writing.withDone w (including j (w .done)))) (clientAt (s .clients) c)) (atNode j c s)))
           (λ e. record { good = rw (add-view (finishedWrite (w .id) (clientAt (s .clients) c)) refl refl) (add-done-good (ops z) L h C c j w g may (complete e)); fits = add-fits (finishedWrite (w .id) (clientAt (s .clients) c)) })
           (λ e. record { good = rw (add-view (withHand (some (Writing.withDone w (including j (w .done)))) (clientAt (s .clients) c)) refl refl, upd-keep (C .finished) c) (add-more-good (ops z) L h C c j w g may); fits = add-fits (withHand (some (Writing.withDone w (including j (w .done)))) (clientAt (s .clients) c)) }))
+
+    add-after : (w : Write) → (1 ≤ c) × (c ≤ z .m) → (z .k < j) × (j ≤ z .n) → C .hand c ≡ some w → has (w .done) j ≡ false → Node.takesAdd (nodeAt (s .nodes) j) ≡ true → C .epoch j ≤ w .epoch .0 →
+        After add j c (Writing.addAfter z c j w (w .previous) (atNode j c s))
+    unfolding Writing.addAfter
+    add-after w (c1, cm) (kj, jn) hand todo takes epoch = go (w .previous) refl
+      where
+        may : previousListed (w .previous) (C .entries j) ≡ true → MayAdd (ops z) C c j w
+        may previous =
+            let (norm, lock) = and-both (Node.isNorm (C .op j)) (Node.isUnl (nodeAt (s .nodes) j .lmode) || Node.isL0 (nodeAt (s .nodes) j .lmode)) takes in
+            record { hand = hand; redundant = kj; high = jn; todo = todo; norm = norm; lock = rw (unl-is (nodeAt (s .nodes) j), l0-is (nodeAt (s .nodes) j)) at lock; epoch = epoch; previous = previous }
+
+        go : (p : Previous) → w .previous ≡ p → After add j c (Writing.addAfter z c j w p (atNode j c s))
+        go Nothing e = add-entered w (may (rw e)) c1 cm
+        go (Id x) e = tested add j c _ _ _ (λ r6. add-entered w (may (rw e (not-false (isListed x (C .entries j)) r6))) c1 cm)
+
+    add-written : (1 ≤ c) × (c ≤ z .m) → (z .k < j) × (j ≤ z .n) → (t : Option Write) → C .hand c ≡ t → After add j c (Writing.addWrite z c j t (atNode j c s))
+    unfolding Writing.addWrite
+    add-written client redundant none e = at-refused z h s g f add j c _
+    add-written client redundant (some w) e = tested add j c _ _ _ (λ r3. tested add j c _ _ _ (λ r4. tested add j c _ _ _ (λ r5.
+        add-after w client redundant e r3 (not-false _ r4) (ltb-false (w .epoch .0) (C .epoch j) r5))))
+
+    pub add-kept : Kept z h add (step z add s)
+    unfolding step Writing.add
+    add-kept = tested add j c _ _ _ (λ r1. tested add j c _ _ _ (λ r2.
+        let (client, redundant) = and-both (isClient z c) (isRedundant z j) (not-false _ r2) in
+        let (kj, jn) = and-both (ltb (z .k) j) (leb j (z .n)) redundant in
+        add-written (range client) (ltb-true (z .k) j kj, leb-true j (z .n) jn) (C .hand c) refl))
