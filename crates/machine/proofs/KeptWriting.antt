@@ -22,20 +22,24 @@ use Rattle.records.specs.Entries.{enter, isListed, isRecentIn}
 use Rattle.records.specs.Sizes.{sizesWithin, isClient, isPosition, isNode, isRedundant}
 use Rattle.records.specs.Node.{Node, withEntries, failedNode, nodeWithin}
 use Rattle.records.specs.Node as Node
-use Rattle.records.specs.Client.{Client, Write, began, finishedWrite, withHand, clientWithin}
-use Rattle.machine.specs.Stripe.{Stripe, Answer, Accepted, Added, Done, Outcome, answered, guard, Local, nodeAt, clientAt, setAt, atNode, putNode, blocksFit, differencesFit}
+use Rattle.records.specs.Client.{Client, Write, began, finishedWrite, withHand, sweptOn, freshClient, clientWithin}
+use Rattle.machine.specs.Stripe.{Stripe, Answer, Accepted, Added, Done, CheckInit, CheckGc, NoChange, Outcome, answered, guard, Local, nodeAt, clientAt, setAt, atNode, putNode, blocksFit, differencesFit}
 use Rattle.machine.specs.Calls.{Call, Read, Swap, Add, Check, Drop, Sweep, Fail, step}
 use Rattle.machine.specs.Writing as Writing
 use Rattle.machine.proofs.Base.{upd, and-both, cond-ind}
 use Rattle.machine.proofs.Columns.{Ops, Columns, setBlocks, setEntries, setHands, setFinished, setNexts, setDifferences}
 use Rattle.machine.proofs.Ledger.{Ledger, note}
-use Rattle.machine.proofs.Invariant.{Laws, Good}
+use Rattle.machine.proofs.Invariant.{Laws, IsNode, Good}
+use Rattle.machine.proofs.Frame.{norm-live, of-live}
 use Rattle.machine.proofs.Bytes.{Block, view, blockOf, ops}
-use Rattle.machine.proofs.View.{columns, withNode, withClient, withNodes, put-node, put-client, put-back, upd-keep, setAt-length, unl-is, l0-is}
+use Rattle.machine.proofs.View.{columns, withNode, withClient, withNodes, withClients, set-same, put-node, put-client, put-back, upd-keep, setAt-length, unl-is, l0-is}
 use Rattle.machine.proofs.Tables.{put-block, length-put, bytes-put, bytes-block, length-block, bytes-difference, length-difference, view-difference, bytes-add, length-add, view-add, block-view}
 use Rattle.machine.proofs.Kept.{Fits, Kept, entry, KeptAt, at-refused, at-guard}
 use Rattle.machine.proofs.Sets.{each-at}
 use Rattle.machine.proofs.Add.{previousListed, MayAdd, addedTo, add-more-good, add-done-good}
+use Rattle.machine.proofs.Hands.{drop-good, check-init-good, check-gc-good}
+use Rattle.machine.proofs.Sweep.{relisted, discard-good, mark-good, empty-finished-good}
+use Rattle.machine.proofs.Fail.{failed, fail-good}
 use Rattle.machine.proofs.Swap.{newId, newWrite, swapped, swap-good}
 
 -- a number between two
@@ -220,3 +224,121 @@ module _ (z : Sizes) (L : Laws (ops z)) (h : Ledger Block) (s : Stripe) (g : Goo
         let (client, redundant) = and-both (isClient z c) (isRedundant z j) (not-false _ r2) in
         let (kj, jn) = and-both (ltb (z .k) j) (leb j (z .n)) redundant in
         add-written (range client) (ltb-true (z .k) j kj, leb-true j (z .n) jn) (C .hand c) refl))
+
+  ---- check and drop: one hand
+  put-hand : (j c : ℕ) (t : Option Write) → 1 ≤ c → c ≤ z .m →
+      columns z (putNode j c (Writing.withClient (withHand t (clientAt (s .clients) c)) (atNode j c s)) s) ≡ setHands (upd (C .hand) c t) C
+  put-hand j c t c1 cm =
+      ap (λ l. columns z (withClients (withNodes s l) (setAt (s .clients) c y))) (set-same (λ (x : Node). x) failedNode (s .nodes) j)
+      ∙ put-client z s c y c1 (rw (f .clients) cm)
+      ∙ rw (upd-keep (C .phase) c, upd-keep (C .finished) c, upd-keep (C .next) c)
+    where
+      y : Client
+      y = withHand t (clientAt (s .clients) c)
+
+  -- the ledger is told nothing
+  kept-hand : (x : Call) (j c : ℕ) (a : Answer) (t : Option Write) → 1 ≤ c → c ≤ z .m → ((b : ℕ → Block) → note (ops z) h (entry z x a) b ≡ h) → Good (ops z) h (setHands (upd (C .hand) c t) C) →
+      After x j c (answered a (Writing.withClient (withHand t (clientAt (s .clients) c)) (atNode j c s)))
+  kept-hand x j c a t c1 cm quiet good =
+      record {
+        good = rw (quiet (C .block), put-hand j c t c1 cm) good;
+        fits = put-fits j c (Writing.withClient (withHand t (clientAt (s .clients) c)) (atNode j c s)) (f .blocks) (f .differences) (f .blocks-bytes) (f .differences-bytes);
+      }
+
+  pub drop-kept : (c : ℕ) → Kept z h (Drop c) (step z (Drop c) s)
+  unfolding step Writing.drop
+  drop-kept c = tested x 0 c _ _ _ (λ r1. tested x 0 c _ _ _ (λ r2. tested x 0 c _ _ _ (λ r3.
+      let (c1, cm) = range (not-false _ r2) in
+      kept-hand x 0 c Accepted none c1 cm (λ b. refl) (drop-good (ops z) h C c g))))
+    where
+      x : Call
+      x = Drop c
+
+  module _ (c j : ℕ) where
+    abbrev check : Call
+    check = Check c j
+
+    check-written : 1 ≤ c → c ≤ z .m → (t : Option Write) → C .hand c ≡ t → After check j c (Writing.checkWrite j t (atNode j c s))
+    unfolding Writing.checkWrite
+    check-written c1 cm none e = at-refused z h s g f check j c _
+    check-written c1 cm (some w) e = tested check j c _ _ _ (λ r3.
+        cond-ind (After check j c) (not (isRecentIn (w .id) (C .entries j))) _ _
+        (λ gone. kept-hand check j c CheckInit _ c1 cm (λ b. refl) (check-init-good (ops z) L h C c j w g e (not-true (isRecentIn (w .id) (C .entries j)) gone)))
+        (λ there. cond-ind (After check j c) (Writing.previousRecent (w .previous) (C .entries j)) _ _
+        (λ known. kept-same check j c NoChange (λ b. refl))
+        (λ unknown. kept-hand check j c CheckGc _ c1 cm (λ b. refl) (check-gc-good (ops z) h C c j w g e (not-false (isRecentIn (w .id) (C .entries j)) there) unknown))))
+
+    pub check-kept : Kept z h check (step z check s)
+    unfolding step Writing.check
+    check-kept = tested check j c _ _ _ (λ r1. tested check j c _ _ _ (λ r2.
+        let (c1, cm) = range (and-both (isClient z c) (isNode z j) (not-false _ r2) .0) in
+        check-written c1 cm (C .hand c) refl))
+
+  ---- sweep
+  module _ (c : ℕ) where
+    abbrev sweep : Call
+    sweep = Sweep c
+
+    abbrev swept-node : ℕ
+    swept-node = Writing.sweepNode z (clientAt (s .clients) c)
+
+    -- y is the client's record after it
+    sweep-accepted : 1 ≤ c → c ≤ z .m → Node.isFree (nodeAt (s .nodes) swept-node) ≡ true → (es : List Entry) (y : Client) → y .hand ≡ C .hand c → y .rebuild ≡ C .phase c → y .next .0 ≡ C .next c →
+        Good (ops z) h (setFinished (upd (C .finished) c (y .finished)) (relisted (ops z) C swept-node es)) →
+        After sweep swept-node c (answered Accepted (record { node = withEntries (nodeAt (s .nodes) swept-node) es; client = y; blocks = s .blocks; differences = s .differences }))
+    sweep-accepted c1 cm free es y hand rebuild next good =
+        record {
+          good = rw (put-writing swept-node c es y (s .blocks) (s .differences) (live .low) (live .high) c1 cm rebuild, hand, upd-keep (C .hand) c, next, upd-keep (C .next) c) good;
+          fits = put-fits swept-node c _ (f .blocks) (f .differences) (f .blocks-bytes) (f .differences-bytes);
+        }
+      where
+        -- a node that is NORM is one of the n
+        live : IsNode (ops z) swept-node
+        live = of-live (ops z) (g .inv .node swept-node .live (norm-live (C .op swept-node) (and-both (Node.isNorm (C .op swept-node)) _ free .0)))
+
+    -- the round goes on, or it ends
+    sweep-end : 1 ≤ c → c ≤ z .m → Node.isFree (nodeAt (s .nodes) swept-node) ≡ true → (es : List Entry) → Good (ops z) h (relisted (ops z) C swept-node es) →
+        After sweep swept-node c (answered Accepted (record { node = withEntries (nodeAt (s .nodes) swept-node) es; client = sweptOn (z .n) (clientAt (s .clients) c); blocks = s .blocks; differences = s .differences }))
+    sweep-end c1 cm free es good =
+        cond-ind (λ y. After sweep swept-node c (answered Accepted (record { node = withEntries (nodeAt (s .nodes) swept-node) es; client = y; blocks = s .blocks; differences = s .differences })))
+        (leb (2 * z .n) (clientAt (s .clients) c .round + 1)) _ _
+        (λ e. sweep-accepted c1 cm free es _ refl refl refl (empty-finished-good (ops z) h (relisted (ops z) C swept-node es) c good))
+        (λ e. sweep-accepted c1 cm free es _ refl refl refl (rw (upd-keep (C .finished) c) good))
+
+    pub sweep-kept : Kept z h sweep (step z sweep s)
+    unfolding step Writing.sweep
+    sweep-kept = tested sweep swept-node c _ _ _ (λ r1. tested sweep swept-node c _ _ _ (λ r2. tested sweep swept-node c _ _ _ (λ r3. tested sweep swept-node c _ _ _ (λ r4.
+        let (c1, cm) = range (not-false _ r2) in
+        cond-ind (λ es. After sweep swept-node c (answered Accepted (record { node = withEntries (nodeAt (s .nodes) swept-node) es; client = sweptOn (z .n) (clientAt (s .clients) c); blocks = s .blocks; differences = s .differences })))
+        (ltb (clientAt (s .clients) c .round) (z .n)) _ _
+        (λ e. sweep-end c1 cm (not-false _ r4) _ (discard-good (ops z) h C swept-node (clientAt (s .clients) c .moved) g))
+        (λ e. sweep-end c1 cm (not-false _ r4) _ (mark-good (ops z) h C c swept-node g))))))
+
+  ---- fail
+  pub fail-kept : (j : ℕ) (value : List ℕ) → Bytes value → Kept z h (Fail j value) (step z (Fail j value) s)
+  unfolding step Writing.fail
+  fail-kept j value bytes = tested x j 0 _ _ _ (λ r1. tested x j 0 _ _ _ (λ r2.
+      let many = and-both (blocksFit z (s .blocks)) _ (and-both (sizesWithin z) _ (not-false _ r1) .1) .1 in
+      accepted (range (not-false _ r2)) (eqb-true _ _ many)))
+    where
+      x : Call
+      x = Fail j value
+
+      after : Local
+      after = record { node = failedNode; client = clientAt (s .clients) 0; blocks = setBlock (z .b) j value (s .blocks); differences = s .differences }
+
+      accepted : (1 ≤ j) × (j ≤ z .n) → length value ≡ z .b → After x j 0 (answered Accepted after)
+      accepted (j1, jn) len =
+          record {
+            good = rw (view-after) (fail-good (ops z) L h C j (view (z .b) value) g);
+            fits = put-fits j 0 after (length-put (z .b) (z .n) j value (s .blocks) j1 jn (f .blocks) len) (f .differences) (bytes-put (z .b) j value (s .blocks) bytes (f .blocks-bytes)) (f .differences-bytes);
+          }
+        where
+          view-after : columns z (putNode j 0 after s) ≡ failed (ops z) C j (view (z .b) value)
+          view-after =
+              ap (λ l. columns z (withClients (withNodes tables (setAt (s .nodes) j failedNode)) l)) (set-same (λ (y : Client). y) freshClient (s .clients) 0)
+              ∙ put-node z tables j failedNode j1 (rw (f .nodes) jn)
+              ∙ rw (put-block (z .b) (z .n) j value (s .blocks) j1 jn (f .blocks) len)
+            where
+              tables : Stripe
+              tables = record { nodes = s .nodes; clients = s .clients; blocks = setBlock (z .b) j value (s .blocks); spare = s .spare; differences = s .differences }
