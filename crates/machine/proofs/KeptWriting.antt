@@ -1,18 +1,17 @@
 -- The calls of the document's section "Writing" keep the invariant and the shapes of the tables. Assumes nothing.
 use mathlib.Core.Path.{_≡_, refl, sym, ap, subst, _∙_}
-use mathlib.Core.Bool.{Bool, true, false, cond, _&&_, _||_, not}
-use mathlib.Core.List.{List, [], _∷_, _++_}
+use mathlib.Core.Bool.{Bool, true, false, _&&_, _||_, not}
+use mathlib.Core.List.{List}
 use mathlib.Core.Option.{Option, none, some}
-use Prim.Native.Nat.{ℕ, suc, _+_, _*_, _≤_, _<_}
-use native.Mathlib.Nat.{le-trans}
+use Prim.Native.Nat.{ℕ, _+_, _*_, _≤_, _<_}
 use native.Mathlib.Numerals.{add-one}
 use native.Mathlib.Omega.{arith}
-use lib.Dec.{eqb, leb, ltb}
+use lib.Dec.{leb, ltb}
 use lib.ListN.{length}
 use borrow.Author.Tests.{leb-true, ltb-true, ltb-false, eqb-true, not-true, not-false, lt-leb}
 use Rattle.blocks.specs.Blocks.{block, setBlock, difference, addTimes, Bytes}
 use Rattle.code.specs.Code.{coefficient}
-use Rattle.code.specs.Decode.{NodeSet, has, each, including}
+use Rattle.code.specs.Decode.{has, including}
 use Rattle.records.specs.declared.Sizes.{Sizes}
 use Rattle.records.specs.declared.Entry.{Entry}
 use Rattle.records.specs.declared.Refusal.{Refusal}
@@ -27,12 +26,12 @@ use Rattle.machine.specs.Stripe.{Stripe, Answer, Accepted, Added, Done, 
 use Rattle.machine.specs.Calls.{Call, Read, Swap, Add, Check, Drop, Sweep, Fail, step}
 use Rattle.machine.specs.Writing as Writing
 use Rattle.machine.proofs.Base.{upd, and-both, cond-ind}
-use Rattle.machine.proofs.Columns.{Ops, Columns, setBlocks, setEntries, setHands, setFinished, setNexts, setDifferences}
+use Rattle.machine.proofs.Columns.{Columns, setBlocks, setEntries, setHands, setFinished, setNexts, setDifferences}
 use Rattle.machine.proofs.Ledger.{Ledger, note}
 use Rattle.machine.proofs.Invariant.{Laws, IsNode, Good}
 use Rattle.machine.proofs.Frame.{norm-live, of-live}
 use Rattle.machine.proofs.Bytes.{Block, view, blockOf, ops}
-use Rattle.machine.proofs.View.{columns, withNode, withClient, withNodes, withClients, set-same, put-node, put-client, put-back, upd-keep, setAt-length, unl-is, l0-is}
+use Rattle.machine.proofs.View.{columns, withClient, withNodes, withClients, set-same, put-node, put-client, put-back, upd-keep, setAt-length, unl-is, l0-is}
 use Rattle.machine.proofs.Tables.{put-block, length-put, bytes-put, bytes-block, length-block, bytes-difference, length-difference, view-difference, bytes-add, length-add, view-add, block-view}
 use Rattle.machine.proofs.Kept.{Fits, Kept, entry, KeptAt, at-refused, at-guard}
 use Rattle.machine.proofs.Sets.{each-at}

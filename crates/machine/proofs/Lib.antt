@@ -16,6 +16,7 @@ pub mod Bytes
 pub mod View
 pub mod Kept
 pub mod Tables
+pub mod KeptStart
 pub mod KeptWriting
 pub mod Limits
 pub mod Examples
