@@ -15,3 +15,5 @@ pub mod Bytes
 pub mod View
 pub mod Kept
 pub mod Tables
+pub mod CodeLaws
+pub mod Told
