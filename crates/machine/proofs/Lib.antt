@@ -16,7 +16,9 @@ pub mod Bytes
 pub mod View
 pub mod Kept
 pub mod Tables
+pub mod CodeLaws
 pub mod KeptStart
 pub mod KeptWriting
+pub mod Told
 pub mod Limits
 pub mod Examples
