@@ -8,4 +8,5 @@ pub mod Bytes
 pub mod View
 pub mod Kept
 pub mod Limits
+pub mod Largest
 pub mod Examples
