@@ -1,6 +1,8 @@
--- Document 01, "Pick c": `largest` is the set that the document takes, and the document takes no other. Assumes nothing.
+-- Document 01, "Pick c": `largest` is the set that the document takes (`the-largest`), and there is no other such set (`the-only`).
+-- Every consistent set is within a candidate, `allData` or `besides r`, which is consistent too; `largest` is the first of the largest candidates.
+-- Assumes nothing.
 use mathlib.Core.Path.{_≡_, refl, sym, ap, ap₂, subst, _∙_}
-use mathlib.Core.Logic.{_≢_, _⊎_, inl, inr}
+use mathlib.Core.Logic.{_⊎_, inl, inr}
 use mathlib.Core.Bool.{Bool, true, false, cond, _&&_, _||_, and-false, and-or-distrib-left}
 use mathlib.Core.List.{List, [], _∷_}
 use Prim.Native.Nat.{ℕ, zero, suc, _+_, _-_, _≤_, _<_}
@@ -8,7 +10,7 @@ use native.Mathlib.Decide.{decLe, decLt}
 use native.Mathlib.Nat.{eq-or-lt-of-le}
 use native.Mathlib.Omega.{arith}
 use lib.Dec.{eqb, leb, ltb}
-use lib.ListN.{length, getD, List·getD-eq-default}
+use lib.ListN.{length, List·getD-eq-default}
 use borrow.Author.Tests.{leb-true, ltb-true, ltb-false, le-leb, lt-leb}
 use Rattle.code.specs.Decode.{NodeSet, has, setOf, size}
 use Rattle.code.proofs.NodeSets.{has-setOf, has-zero, has-past, has-within, setOf-has, count, size-count}
@@ -28,13 +30,14 @@ same-tests true b to from = sym (to refl)
 same-tests false true to from = from refl
 same-tests false false to from = refl
 
--- ---- sets of ids: `sameIds` says that they are the same
+-- ---- sets of ids: `sameIds` tests whether they are the same
 
 module _ (p : WriteId → Bool) where
   every-at : (ids : List WriteId) → everyOf p ids ≡ true → (x : WriteId) → isIn x ids ≡ true → p x ≡ true
   unfolding everyOf isIn
   every-at [] e x m = clash m refl
-  every-at (y ∷ ids) e x m = let each = and-both (p y) (everyOf p ids) e in at (each .0) (every-at ids (each .1) x) (or-one (sameId y x) (isIn x ids) m)
+  every-at (y ∷ ids) e x m =
+      let each = and-both (p y) (everyOf p ids) e in at (each .0) (every-at ids (each .1) x) (or-one (sameId y x) (isIn x ids) m)
     where
       at : p y ≡ true → (isIn x ids ≡ true → p x ≡ true) → (sameId y x ≡ true) ⊎ (isIn x ids ≡ true) → p x ≡ true
       at head tail (inl same) = subst (λ x. p x ≡ true) (same-id y x same) head
@@ -60,14 +63,14 @@ unfolding isIn atPosition
 in-position i x [] = sym (and-false (eqb (x .position) i))
 in-position i x (y ∷ ids) =
     kept (eqb (y .position) i)
-    ∙ ap₂ _||_ (moved (sameId y x) (λ s. ap (λ x. eqb (x .position) i) (same-id y x s))) (in-position i x ids)
+    ∙ ap₂ _||_ (moved (sameId y x) (λ e. ap (λ x. eqb (x .position) i) (same-id y x e))) (in-position i x ids)
     ∙ sym (and-or-distrib-left (eqb (x .position) i) (sameId y x) (isIn x ids))
   where
     kept : (t : Bool) → isIn x (cond t (y ∷ atPosition i ids) (atPosition i ids)) ≡ ((t && sameId y x) || isIn x (atPosition i ids))
     kept true = refl
     kept false = refl
 
-    -- the position of y is that of x, if y is x
+    -- an id that is x is at the position of x
     moved : (s : Bool) → (s ≡ true → eqb (y .position) i ≡ eqb (x .position) i) → (eqb (y .position) i && s) ≡ (eqb (x .position) i && s)
     moved true same = ap (λ t. t && true) (same refl)
     moved false same = and-false (eqb (y .position) i) ∙ sym (and-false (eqb (x .position) i))
@@ -75,7 +78,7 @@ in-position i x (y ∷ ids) =
 same-position : (i : ℕ) (a b : List WriteId) → SameSet a b → SameSet (atPosition i a) (atPosition i b)
 same-position i a b same x = in-position i x a ∙ ap (λ t. eqb (x .position) i && t) (same x) ∙ sym (in-position i x b)
 
--- ---- sizes: a set within another has at most its size, and is the other if it has its size
+-- ---- sizes: a set within another has at most its size, and where it has its size it is the other
 
 abbrev Within : NodeSet → NodeSet → Type 0
 Within s t = (j : ℕ) → has s j ≡ true → has t j ≡ true
@@ -84,7 +87,7 @@ module _ (p q : ℕ → Bool) (within : (j : ℕ) → p j ≡ true → q j ≡ t
   one-within : (j : ℕ) → cond (p j) 1 0 ≤ cond (q j) 1 0
   one-within j = by (p j) (q j) (within j)
     where
-      by : (a b : Bool) → (a ≡ true → b ≡ true) → _≤_ (cond a 1 0) (cond b 1 0)
+      by : (a b : Bool) → (a ≡ true → b ≡ true) → cond a 1 0 ≤ cond b 1 0
       by true b h = rw (h refl) (omega arith)
       by false b h = omega arith
 
@@ -93,7 +96,7 @@ module _ (p q : ℕ → Bool) (within : (j : ℕ) → p j ≡ true → q j ≡ t
   count-within zero = omega arith
   count-within (suc n) = omega (arith, count-within n, one-within (suc n))
 
-  -- with a j that only q holds of
+  -- where q holds of some j that p does not hold of
   count-less : (j n : ℕ) → 1 ≤ j → j ≤ n → p j ≡ false → q j ≡ true → count n p < count n q
   unfolding count
   count-less j zero j1 jn out there = absurd (omega arith)
@@ -103,7 +106,7 @@ module _ (p q : ℕ → Bool) (within : (j : ℕ) → p j ≡ true → q j ≡ t
       by (inl last) earlier = rw (← last, out, there) (omega (arith, count-within n))
       by (inr l) earlier = omega (arith, earlier l, one-within (suc n))
 
--- places added to a list of places hold no members
+-- the places past the end of the list hold no member
 size-padded : (s : NodeSet) (m : ℕ) → count (length s + m) (has s) ≡ size s
 unfolding count
 size-padded s zero = let e : length s + 0 ≡ length s = omega arith in rw e (sym (size-count s))
@@ -134,7 +137,7 @@ module _ (s t : NodeSet) (within : Within s t) where
           let end : suc j ≤ places = omega (arith, has-within t (suc j) there) in
           absurd (omega (arith, size-s, size-t, count-less (has s) (has t) within (suc j) places (omega arith) end out there))
 
--- ---- the candidates: every consistent set is within one of them
+-- ---- a set has data nodes alone, or a lowest redundant member
 
 -- a lowest number that P holds of, or none below m
 lowest-below : {P : ℕ → Type 0} → ((n : ℕ) → Dec (P n)) → (m : ℕ) → ((r : ℕ) × Lowest P r) ⊎ ((r : ℕ) → P r → m ≤ r)
@@ -150,6 +153,9 @@ lowest-below {P} dec (suc m) = by (lowest-below dec m) (dec m)
     by (inr above) (yes p) = inl (m, record { holds = p; least = above })
     by (inr above) (no n) = inr (λ r p. next n r p (eq-or-lt-of-le (above r p)))
 
+abbrev Place : Sizes → NodeSet → Type 0
+Place z set = AllData z set ⊎ ((r : ℕ) × Lowest (Redundant z set) r)
+
 module _ (z : Sizes) (set : NodeSet) where
   redundant? : (r : ℕ) → Dec (Redundant z set r)
   redundant? r = by (bool-cases (has set r)) (decLt (z .k) r)
@@ -159,19 +165,24 @@ module _ (z : Sizes) (set : NodeSet) where
       by (inl m) (no n) = no (λ R. n (R .beyond))
       by (inr out) d = no (λ R. clash (R .member) out)
 
-  all-data-or : AllData z set ⊎ ((r : ℕ) × Lowest (Redundant z set) r)
-  all-data-or = by (lowest-below redundant? (suc (length set)))
+  place : Place z set
+  place = by (lowest-below redundant? (suc (length set)))
     where
       at : (j : ℕ) → has set j ≡ true → (Redundant z set j → length set < j) → Dec (z .k < j) → j ≤ z .k
       at j m past (yes l) = absurd (omega (arith, past (record { member = m; beyond = l }), has-within set j m))
       at j m past (no n) = omega arith
 
-      by : ((r : ℕ) × Lowest (Redundant z set) r) ⊎ ((r : ℕ) → Redundant z set r → length set < r) → AllData z set ⊎ ((r : ℕ) × Lowest (Redundant z set) r)
+      by : ((r : ℕ) × Lowest (Redundant z set) r) ⊎ ((r : ℕ) → Redundant z set r → length set < r) → Place z set
       by (inl found) = inr found
       by (inr past) = inl (λ j m. at j m (past j) (decLt (z .k) j))
 
+  none-redundant : {A : Type 0} {r : ℕ} → AllData z set → Redundant z set r → A
+  none-redundant {r = r} a R = absurd (omega (arith, a r (R .member), R .beyond))
+
+-- ---- the candidates: they are consistent, and every consistent set is within one of them
+
 module _ (z : Sizes) (nodes : List Node) where
-  -- a NORM node is there
+  -- only a node that is there is NORM
   norm-there : (j : ℕ) → isNorm (nodeAt nodes j .opmode) ≡ true → (1 ≤ j) × (j ≤ length nodes)
   unfolding elementAt
   norm-there zero e = clash e refl
@@ -184,15 +195,12 @@ module _ (z : Sizes) (nodes : List Node) where
   all-data : AllData z (allData z nodes)
   all-data j m = leb-true j (z .k) (and-both (leb j (z .k)) (isNorm (nodeAt nodes j .opmode)) (setOf-has _ j m) .0)
 
-  none-redundant : {A : Type 0} {set : NodeSet} {r : ℕ} → AllData z set → Redundant z set r → A
-  none-redundant {r = r} a R = absurd (omega (arith, a r (R .member), R .beyond))
-
   consistent-data : Consistent z nodes (allData z nodes)
   consistent-data =
       record {
         norm = λ j m. and-both (leb j (z .k)) (isNorm (nodeAt nodes j .opmode)) (setOf-has _ j m) .1;
-        redundant = λ q r Q R. none-redundant all-data R;
-        position = λ i r m l R. none-redundant all-data R;
+        redundant = λ q r Q R. none-redundant z (allData z nodes) all-data R;
+        position = λ i r m l R. none-redundant z (allData z nodes) all-data R;
       }
 
   consistent-besides : (r : ℕ) → Consistent z nodes (besides z nodes r)
@@ -203,6 +211,7 @@ module _ (z : Sizes) (nodes : List Node) where
         position = λ i q m l Q x. at i m l x ∙ sym (same-position i (f nodes q) (f nodes r) (equal q Q) x);
       }
     where
+      -- what a member has: it is NORM and fits; a redundant member's f is that of r, a data member's the part of its position
       fitting : (j : ℕ) → has (besides z nodes r) j ≡ true → (isNorm (nodeAt nodes j .opmode) ≡ true) × (fits z nodes r j ≡ true)
       fitting j m = and-both (isNorm (nodeAt nodes j .opmode)) (fits z nodes r j) (setOf-has _ j m)
 
@@ -212,7 +221,7 @@ module _ (z : Sizes) (nodes : List Node) where
       at : (i : ℕ) → has (besides z nodes r) i ≡ true → i ≤ z .k → SameSet (f nodes i) (atPosition i (f nodes r))
       at i m l = same-set (f nodes i) (atPosition i (f nodes r)) (rw (le-leb i (z .k) l) at (fitting i m .1))
 
-  -- a set is of kind 0 if it has no redundant member, and of kind r if r is one
+  -- a set is of kind 0 if it has no redundant member, and of kind r for each redundant member r; the candidate for its kind
   data Kind (set : NodeSet) : ℕ → Type 0 where
     data-only : AllData z set → Kind set 0
     beside : {r : ℕ} → Redundant z set r → Kind set r
@@ -226,6 +235,7 @@ module _ (z : Sizes) (nodes : List Node) where
   candidate-consistent (beside {r = r} R) = consistent-besides r
 
   module _ (fit : length nodes ≡ z .n) (n18 : z .n ≤ 18) where
+    -- 18 places are enough
     norm-in : (p : ℕ → Bool) (j : ℕ) → isNorm (nodeAt nodes j .opmode) ≡ true → p j ≡ true → has (setOf p) j ≡ true
     norm-in p j norm e = let l = norm-there j norm in has-setOf p j (l .0) (omega (arith, l .1)) ∙ e
 
@@ -244,12 +254,12 @@ module _ (z : Sizes) (nodes : List Node) where
     size-candidate : {set : NodeSet} {r : ℕ} → Consistent z nodes set → (K : Kind set r) → size set ≤ size (candidate K)
     size-candidate {set} C K = size-within set (candidate K) (within-candidate C K)
 
-    -- ---- the largest of the candidates of a kind up to k + d
+    -- ---- `largest .. d` is the first of the largest sets of a kind up to k + d
 
     abbrev UpTo : ℕ → (NodeSet → ℕ → Type 0) → Type 0
     UpTo m P = (other : NodeSet) → Consistent z nodes other → (r : ℕ) → Kind other r → r ≤ m → P other r
 
-    -- a set of kind q is taken before another of kind r
+    -- "The largest is taken, on a tie" the one of the lower kind: a set of kind q, and another of kind r
     abbrev Before : NodeSet → ℕ → NodeSet → ℕ → Type 0
     Before set q other r = (size other ≤ size set) × (size other ≡ size set → q ≤ r)
 
@@ -261,7 +271,14 @@ module _ (z : Sizes) (nodes : List Node) where
       first : UpTo (z .k + d) (Before set rank)
 
     best-data : Best 0 (allData z nodes)
-    best-data = record { consistent = consistent-data; rank = 0; kind = data-only all-data; reach = omega arith; first = λ other C r K l. (at other C K l, λ e. omega arith) }
+    best-data =
+        record {
+          consistent = consistent-data;
+          rank = 0;
+          kind = data-only all-data;
+          reach = omega arith;
+          first = λ other C r K l. (at other C K l, λ e. omega arith);
+        }
       where
         at : (other : NodeSet) → Consistent z nodes other → {r : ℕ} → Kind other r → r ≤ z .k + 0 → size other ≤ size (allData z nodes)
         at other C (data-only a) l = size-candidate C (data-only a)
@@ -271,7 +288,9 @@ module _ (z : Sizes) (nodes : List Node) where
       abbrev next : ℕ
       next = z .k + suc d
 
-      up-to-next : (P : NodeSet → ℕ → Type 0) → UpTo (z .k + d) P → ((other : NodeSet) → Consistent z nodes other → Redundant z other next → P other next) → UpTo next P
+      -- a kind up to next is one up to k + d, or next
+      up-to-next : (P : NodeSet → ℕ → Type 0) → UpTo (z .k + d) P
+          → ((other : NodeSet) → Consistent z nodes other → Redundant z other next → P other next) → UpTo next P
       up-to-next P lower here other C r K l = by (decLe r (z .k + d))
         where
           at : {r : ℕ} → Kind other r → r ≡ next → P other r
@@ -298,7 +317,8 @@ module _ (z : Sizes) (nodes : List Node) where
           self : Redundant z (besides z nodes next) next
           self =
               let l : z .k < next = omega arith in
-              record { member = norm-in _ next norm (rw (norm, lt-leb next (z .k) l) (same-ids (f nodes next) (f nodes next) (λ x. refl))); beyond = l }
+              let fitting : fits z nodes next next ≡ true = rw (lt-leb next (z .k) l) (same-ids (f nodes next) (f nodes next) (λ x. refl)) in
+              record { member = norm-in _ next norm (rw norm fitting); beyond = l }
 
       kept : (isNorm (nodeAt nodes next .opmode) ≡ true → size (besides z nodes next) ≤ size set) → Best (suc d) set
       kept smaller =
@@ -325,9 +345,9 @@ module _ (z : Sizes) (nodes : List Node) where
     -- ---- it is the set that the document takes, and there is no other
 
     kind-of : (set : NodeSet) → (r : ℕ) × Kind set r
-    kind-of set = by (all-data-or z set)
+    kind-of set = by (place z set)
       where
-        by : AllData z set ⊎ ((r : ℕ) × Lowest (Redundant z set) r) → (r : ℕ) × Kind set r
+        by : Place z set → (r : ℕ) × Kind set r
         by (inl a) = (0, data-only a)
         by (inr L) = (L .0, beside (L .1 .holds))
 
@@ -352,31 +372,32 @@ module _ (z : Sizes) (nodes : List Node) where
         no-rank (beside R) l = absurd (omega (arith, R .beyond))
 
         low : {p q r : ℕ} → Kind set p → Lowest (Redundant z set) q → p ≤ r → q ≤ r
-        low (data-only a) L l = none-redundant a (L .holds)
+        low (data-only a) L l = none-redundant z set a (L .holds)
         low {p} (beside R) L l = omega (arith, L .least p R)
 
     pub the-largest : TheLargest z nodes (largest z nodes (z .n - z .k))
     the-largest = best-largest (largest z nodes (z .n - z .k)) (best (z .n - z .k))
 
-    -- it is its candidate
+    -- a set that the document takes is the candidate for its kind
     fills : (set : NodeSet) → TheLargest z nodes set → {r : ℕ} (K : Kind set r) (j : ℕ) → has set j ≡ has (candidate K) j
     fills set T K j =
         let within = within-candidate (T .consistent) K in
         same-tests (has set j) (has (candidate K) j) (within j) (size-full set (candidate K) within (T .largest (candidate K) (candidate-consistent K)) j)
 
     pub the-only : (s t : NodeSet) → TheLargest z nodes s → TheLargest z nodes t → (j : ℕ) → has s j ≡ has t j
-    the-only s t S T = by (all-data-or z s) (all-data-or z t)
+    the-only s t S T = by (place z s) (place z t)
       where
-        S-tie : Tie z nodes t s
-        S-tie = record { consistent = S .consistent; sizes = omega (arith, S .largest t (T .consistent), T .largest s (S .consistent)) }
+        s-tie : Tie z nodes t s
+        s-tie = record { consistent = S .consistent; sizes = omega (arith, S .largest t (T .consistent), T .largest s (S .consistent)) }
 
-        T-tie : Tie z nodes s t
-        T-tie = record { consistent = T .consistent; sizes = sym (S-tie .sizes) }
+        t-tie : Tie z nodes s t
+        t-tie = record { consistent = T .consistent; sizes = sym (s-tie .sizes) }
 
-        by : AllData z s ⊎ ((q : ℕ) × Lowest (Redundant z s) q) → AllData z t ⊎ ((r : ℕ) × Lowest (Redundant z t) r) → (j : ℕ) → has s j ≡ has t j
+        by : Place z s → Place z t → (j : ℕ) → has s j ≡ has t j
         by (inl a) (inl b) j = fills s S (data-only a) j ∙ sym (fills t T (data-only b) j)
-        by (inl a) (inr M) j = none-redundant (T .dataFirst s S-tie a) (M .1 .holds)
-        by (inr L) (inl b) j = none-redundant (S .dataFirst t T-tie b) (L .1 .holds)
+        by (inl a) (inr M) j = none-redundant z t (T .dataFirst s s-tie a) (M .1 .holds)
+        by (inr L) (inl b) j = none-redundant z s (S .dataFirst t t-tie b) (L .1 .holds)
         by (inr L) (inr M) j =
-            let e : L .0 ≡ M .0 = omega (arith, S .lowestFirst t T-tie (L .0) (M .0) (L .1) (M .1), T .lowestFirst s S-tie (M .0) (L .0) (M .1) (L .1)) in
+            let e : L .0 ≡ M .0 =
+            omega (arith, S .lowestFirst t t-tie (L .0) (M .0) (L .1) (M .1), T .lowestFirst s s-tie (M .0) (L .0) (M .1) (L .1)) in
             fills s S (beside (L .1 .holds)) j ∙ ap (λ r. has (besides z nodes r) j) e ∙ sym (fills t T (beside (M .1 .holds)) j)
