@@ -254,7 +254,7 @@ module _ (z : Sizes) (nodes : List Node) where
     size-candidate : {set : NodeSet} {r : ℕ} → Consistent z nodes set → (K : Kind set r) → size set ≤ size (candidate K)
     size-candidate {set} C K = size-within set (candidate K) (within-candidate C K)
 
-    -- ---- `largest .. d` is the first of the largest sets of a kind up to k + d
+    -- ---- `largest z nodes d` is the first of the largest sets of a kind up to k + d
 
     abbrev UpTo : ℕ → (NodeSet → ℕ → Type 0) → Type 0
     UpTo m P = (other : NodeSet) → Consistent z nodes other → (r : ℕ) → Kind other r → r ≤ m → P other r
@@ -263,6 +263,7 @@ module _ (z : Sizes) (nodes : List Node) where
     abbrev Before : NodeSet → ℕ → NodeSet → ℕ → Type 0
     Before set q other r = (size other ≤ size set) × (size other ≡ size set → q ≤ r)
 
+    -- the set goes before every consistent set of a kind up to k + d
     record Best (d : ℕ) (set : NodeSet) : Type 0 where
       consistent : Consistent z nodes set
       rank : ℕ
@@ -301,6 +302,7 @@ module _ (z : Sizes) (nodes : List Node) where
           by (yes l') = lower other C r K l'
           by (no n) = at K (omega arith)
 
+      -- the candidate beside next is larger and is taken; or next is not NORM, or its candidate is not larger, and the set stays
       taken : isNorm (nodeAt nodes next .opmode) ≡ true → size set < size (besides z nodes next) → Best (suc d) (besides z nodes next)
       taken norm larger =
           record {
@@ -351,6 +353,7 @@ module _ (z : Sizes) (nodes : List Node) where
         by (inl a) = (0, data-only a)
         by (inr L) = (L .0, beside (L .1 .holds))
 
+    -- no kind is past n
     reached : {set : NodeSet} {r : ℕ} → Consistent z nodes set → Kind set r → r ≤ z .k + (z .n - z .k)
     reached C (data-only a) = omega arith
     reached C (beside {r = r} R) = omega (arith, norm-there r (C .norm r (R .member)) .1)
