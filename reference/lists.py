@@ -65,18 +65,18 @@ class Author:
             self.answers[answer.number] += 1
 
     def lines(self, count):
-        for _ in range(count):
+        """In the last tenth, calls that nothing restores are let through."""
+        for at in range(count):
             line = self.line()
+            if at < count * 9 // 10 and self.endangers(line):
+                line = text("read", self.position())
             self.play(line)
             yield line
 
     def line(self):
         if self.chance(self.damaged):
             return damage(self.rng, self.plausible_call())
-        line = self.next_call()
-        if self.endangers(line) and self.chance(0.99):
-            return text("read", self.position())
-        return line
+        return self.next_call()
 
     def next_call(self):
         if self.plan and self.chance(0.98):
@@ -233,7 +233,7 @@ class Author:
 
     def remedy(self, c, chosen):
         """Too few agree: a failure outside the set lowers the slack."""
-        others = [j for j, node in self.stripe.nodes.items() if node.opmode == NORM and j not in chosen]
+        others = sorted(self.stripe.with_opmode(NORM) - chosen)
         if self.stripe.slack() == 0 or not others or self.chance(0.2):
             return text("quit", c)
         return text("fail", self.rng.choice(others), self.value())
@@ -247,13 +247,42 @@ class Author:
         idle = [c for c, client in self.stripe.clients.items() if not (client.hand or client.rebuild or client.sweeps)]
         if len(idle) < 2:
             idle = list(self.stripe.clients) * 2
-        return self.rng.choice(plans)(*self.rng.sample(idle, 2))
+        c, d = self.rng.sample(idle, 2)
+        plan = self.rng.choice(plans)(c, d)
+        # A rebuild before it leaves no other write half done.
+        return self.repair(d) + plan if self.chance(0.5) else plan
 
     def n_times(self, name, c):
         return [text(name, c)] * self.stripe.sizes.n
 
     def up_to_n(self, name, c):
-        return [text(name, c)] * self.rng.randint(0, self.stripe.sizes.n)
+        return [text(name, c)] * self.rng.randint(1, self.stripe.sizes.n)
+
+    def clean_position(self):
+        """A position whose last write every redundant node has, if any."""
+        clean = []
+        for i in self.stripe.positions():
+            last = self.stripe.nodes[i].last_recent_id()
+            if last is None or all(self.stripe.nodes[j].lists(last) for j in self.stripe.redundant_nodes()):
+                clean.append(i)
+        return self.rng.choice(clean or [1])
+
+    def done_write(self, c, i):
+        return [text("swap", c, i, self.value())] + [text("add", c, j) for j in self.stripe.redundant_nodes()]
+
+    def sweep_round(self, c):
+        return self.n_times("sweep", c) * 2
+
+    def whole_rebuild(self, c):
+        locks_and_pick = self.n_times("lock", c) + [text("pick", c)]
+        return locks_and_pick + self.n_times("write", c) + self.n_times("settle", c) + self.n_times("unlock", c)
+
+    def repair(self, c):
+        """A whole rebuild; where too few agree, failures lower the slack before."""
+        chosen, needed = self.stripe.choose()
+        others = sorted(self.stripe.with_opmode(NORM) - chosen)
+        lacking = max(0, needed - len(chosen))
+        return [text("fail", j, self.value()) for j in others[:lacking]] + self.whole_rebuild(c)
 
     def race(self, c, d):
         """c loses locked nodes to d, and then meets d's lock."""
@@ -271,11 +300,12 @@ class Author:
         return [text("lock", d)] * (len(lost) + 1) + failures + locks + [text("lock", c)]
 
     def late_add(self, c, d):
-        """c's adds come while or after d rebuilds, or after it quit."""
-        swap = text("swap", c, self.position(), self.value())
-        rebuild = self.n_times("lock", d) + [text("pick", d)] + self.up_to_n("write", d)
-        adds = [text("add", c, j) for j in self.stripe.redundant_nodes()]
-        return [swap] + rebuild + [text("quit", d)] + adds
+        """c's adds come after d has left its rebuild half way."""
+        swap, *adds = self.done_write(c, self.position())
+        writes = [text("write", d)] * self.rng.randint(1, self.stripe.sizes.k)
+        begun = self.n_times("lock", d) + [text("pick", d)] + writes + [text("quit", d)]
+        weakened = self.n_times("lock", d) + [text("weaken", d)] if self.chance(0.5) else []
+        return [swap] + begun + weakened + adds
 
     def late_failure(self, c, d):
         """A node fails while c writes or settles."""
@@ -293,32 +323,15 @@ class Author:
         end = [text(self.rng.choice(["stop", "quit"]), c)]
         if self.chance(0.5):
             end.append(text("fail", self.node(), self.value()))
-        whole = self.n_times("lock", d) + [text("pick", d)]
-        return begun + end + whole + self.n_times("write", d) + self.n_times("settle", d) + self.n_times("unlock", d)
+        return begun + end + self.whole_rebuild(d)
 
     def weakened_add(self, c, d):
         """d weakens, c adds what is missing, d tightens and picks."""
-        swap = text("swap", c, self.position(), self.value())
-        adds = [text("add", c, j) for j in self.stripe.redundant_nodes()]
+        swap, *adds = self.done_write(c, self.position())
         early = self.rng.randint(0, len(adds))
         weaken = self.n_times("lock", d) + [text("weaken", d)]
         tighten = [text("tighten", d)] * len(adds)
         return [swap] + adds[:early] + weaken + adds[early:] + tighten + [text("pick", d)]
-
-    def clean_position(self):
-        """A position whose last write every redundant node has, if any."""
-        clean = []
-        for i in self.stripe.positions():
-            last = self.stripe.nodes[i].last_recent_id()
-            if last is None or all(self.stripe.nodes[j].lists(last) for j in self.stripe.redundant_nodes()):
-                clean.append(i)
-        return self.rng.choice(clean or [1])
-
-    def done_write(self, c, i):
-        return [text("swap", c, i, self.value())] + [text("add", c, j) for j in self.stripe.redundant_nodes()]
-
-    def sweep_round(self, c):
-        return self.n_times("sweep", c) * 2
 
     def tidied_previous(self, c, d):
         """d's write follows one of c, whose sweeps mark that old, then discard it."""
@@ -497,6 +510,9 @@ def random_sizes(rng):
     return Sizes(k, n, rng.choice([1, 1, 2, 3, 8]), min(td, n - k), rng.choice([1, 2, 2, 3, 3, 4, 8]))
 
 
+SHELF_REBUILD = [b"L 1"] * 4 + [b"P 1"] + [b"W 1"] * 4 + [b"T 1"] * 4 + [b"U 1"] * 4
+
+
 def long_writes():
     """Client 1 of shelfrun's stripe makes 1,000,000 writes and drops each.
 
@@ -507,7 +523,7 @@ def long_writes():
         for _ in range(16):
             yield from (b"S 1 1 01", b"D 1", b"S 1 2 02", b"D 1")
         yield b"N 4 00"
-        yield from whole_rebuild()
+        yield from SHELF_REBUILD
 
 
 def long_epochs():
@@ -517,11 +533,7 @@ def long_epochs():
     """
     for _ in range(999_999):
         yield from [b"L 1"] * 4 + [b"P 1"] + [b"W 1"] * 4 + [b"T 1", b"Q 1"]
-    yield from whole_rebuild()
-
-
-def whole_rebuild():
-    return [b"L 1"] * 4 + [b"P 1"] + [b"W 1"] * 4 + [b"T 1"] * 4 + [b"U 1"] * 4
+    yield from SHELF_REBUILD
 
 
 LONG = {"writes": long_writes, "epochs": long_epochs}

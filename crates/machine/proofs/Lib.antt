@@ -22,7 +22,12 @@ pub mod Bytes
 pub mod View
 pub mod Kept
 pub mod Tables
+pub mod CodeLaws
+pub mod KeptStart
+pub mod KeptWriting
 pub mod Elements
 pub mod KeptRebuild
+pub mod Told
 pub mod Limits
+pub mod Largest
 pub mod Examples

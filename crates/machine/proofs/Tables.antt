@@ -18,17 +18,15 @@ use Rattle.gf256.proofs.Laws.{product-byte, product-low, product-zero, byte-low
 use Rattle.blocks.specs.Blocks.{part, setPart, block, setBlock, byteAt, listOf, table, zip, difference, addTimes, Bytes}
 use Rattle.blocks.proofs.Fill.{zip-length, zip-at}
 use Rattle.blocks.proofs.Parts.{part-length, set-length, get-set-same, block-fits, block-at, block-other}
-use Rattle.blocks.proofs.Tables.{byteAt-table, length-table, table-ext}
-use Rattle.code.specs.Code.{symbol, coefficient, codeword, Codeword}
+use Rattle.blocks.proofs.Tables.{byteAt-table, length-table}
+use Rattle.code.specs.Code.{coefficient}
 use Rattle.code.specs.Decode.{NodeSet, size, lowest, recover, recovered, recoveredTable}
 use Rattle.code.proofs.NodeSets.{lowest-from}
 use Rattle.code.proofs.Recover.{recovered-ext, recovered-low, recovered-byte}
 use Rattle.code.proofs.Sum.{sum-zero}
-use Rattle.code.proofs.Symbols.{symbol-data, symbol-redundant, symbol-ext, symbol-byte}
 use Rattle.records.specs.declared.Sizes.{Sizes}
 use Rattle.machine.proofs.Base.{upd, upd-ind, cond-ind}
 use Rattle.machine.proofs.Columns.{Ops}
-use Rattle.machine.proofs.Ledger.{IsCodeword}
 use Rattle.machine.proofs.Bytes.{byteOf, byte-eq, Block, zeroBlock, view, blockOf, ops}
 
 ---- a number's byte
@@ -230,7 +228,7 @@ low-sum x y = ap byteOf (sym (xor-low x y)) ∙ of-low (bitXor x y)
 
 module _ (z : Sizes) where
   open Sizes z using (k, n, b)
-  open Ops (ops z) using (diff, mulAdd, parity, decode)
+  open Ops (ops z) using (diff, mulAdd, decode)
 
   pub view-difference : (v o : List ℕ) → length v ≡ b → length o ≡ b → view b (difference v o) ≡ diff (view b v) (view b o)
   view-difference v o lv lo = view-zip b bitXor v o lv lo refl (λ x y. rw (val-of x, val-of y) (low-sum x y))
@@ -291,28 +289,3 @@ module _ (z : Sizes) where
         by (suc j) (no out) =
             rw (le-leb 1 (suc j) (omega arith), lt-leb (suc j) n (omega arith))
             (block-none b rebuilt (suc j) (omega arith) (rw length-rebuilt (mul-le-mul-right b (omega arith))))
-
-  ---- a codeword
-
-  -- redundant byte p, by the code
-  pub parity-val : (j : ℕ) (x : ℕ → Block) (p : ℕ) → k < j → parity j x p .val ≡ symbol k j (λ i. x i p .val)
-  parity-val j x p kj =
-      let y : ℕ → ℕ = λ i. x i p .val in
-      rw (← symbol-redundant k j y kj) (val-byte (symbol k j y) (symbol-byte k j y (omega arith) (λ i i1 ik. x i p .small)))
-
-  pub codeword-of : (t : List ℕ) → length t ≡ n * b → Bytes t → IsCodeword (ops z) (blockOf b t) → Codeword k n b t
-  unfolding codeword byteAt
-  codeword-of t lt bytes c =
-      table-ext n b t (codeword k n b t) lt (length-table n b (λ j p. symbol k j (λ i. byteAt b t i p)))
-      (λ j p j1 jn lp. by j p j1 jn lp (decLe j k) ∙ sym (byteAt-table n b (λ j p. symbol k j (λ i. byteAt b t i p)) j p j1 jn lp))
-    where
-      seen : (j p : ℕ) → 1 ≤ j → p < b → blockOf b t j p .val ≡ byteAt b t j p
-      seen j p j1 lp = block-val b t j p j1 lp ∙ byte-low (byteAt b t j p) (bytes .small ((j - 1) * b + p))
-
-      by : (j p : ℕ) → 1 ≤ j → j ≤ n → p < b → Dec (j ≤ k) → byteAt b t j p ≡ symbol k j (λ i. byteAt b t i p)
-      by j p j1 jn lp (yes jk) = sym (symbol-data k j (λ i. byteAt b t i p) jk)
-      by j p j1 jn lp (no over) =
-          sym (seen j p j1 lp)
-          ∙ ap (λ (x : Block). x p .val) (c j (omega arith) jn)
-          ∙ parity-val j (blockOf b t) p (omega arith)
-          ∙ symbol-ext k j (λ i. blockOf b t i p .val) (λ i. byteAt b t i p) j1 (λ i i1 ik. seen i p i1 lp)
