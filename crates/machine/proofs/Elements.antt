@@ -6,7 +6,7 @@ use mathlib.Core.List.{List, [], _∷_, _++_, map}
 use Prim.Native.Nat.{ℕ, zero, suc, max, _≤_, _<_}
 use native.Mathlib.Omega.{arith}
 use lib.Dec.{leb, ltb}
-use lib.ListN.{length, getD, take, length-append, length-map, length-take, length-drop, length-set, List·getD-map, List·getD-eq-default}
+use lib.ListN.{length, getD, take, length-append, length-map, length-take, length-drop, List·getD-map, List·getD-eq-default}
 use lib.ListN as ListN
 use borrow.Author.Tests.{leb-true, leb-false, ltb-true, ltb-false, le-leb, le-ltb}
 use Rattle.records.specs.declared.Lmode.{Lmode}
@@ -14,14 +14,9 @@ use Rattle.records.specs.declared.Lmode.the-variants as Lmode
 use Rattle.records.specs.Node.{Node, failedNode, givenBack}
 use Rattle.records.specs.Node as Node
 use Rattle.records.specs.Client.{unlOrExp}
-use Rattle.machine.specs.Stripe.{elementAt, nodeAt, setAt, everyOf, someOf}
+use Rattle.machine.specs.Stripe.{elementAt, nodeAt, everyOf, someOf}
 use Rattle.machine.specs.Rebuild.{restored, largestEpoch}
 use Rattle.machine.proofs.Base.{clash, and-both, or-one, or-none}
-
-pub length-setAt : {E : Type 0} (l : List E) (j : ℕ) (x : E) → length (setAt l j x) ≡ length l
-unfolding setAt
-length-setAt l zero x = refl
-length-setAt l (suc j) x = length-set l j x
 
 module _ {E : Type 0} (d : E) where
   pub every-at : (p : E → Bool) (l : List E) → everyOf p l ≡ true → (j : ℕ) → 1 ≤ j → j ≤ length l → p (elementAt d l j) ≡ true

@@ -3,14 +3,14 @@ use mathlib.Core.Path.{_≡_, refl, sym, ap, fun-ext, subst, _∙_}
 use mathlib.Core.Logic.{_≢_, _⊎_, inl, inr}
 use mathlib.Core.Bool.{Bool, true, false, cond, _&&_, _||_, not}
 use mathlib.Core.List.{List, [], _∷_, _++_, map}
-use Prim.Native.Nat.{ℕ, zero, suc, _+_, _*_, _≤_, _<_}
+use Prim.Native.Nat.{ℕ, zero, suc, _+_, _-_, _*_, _≤_, _<_}
 use native.Mathlib.Numerals.{add-one}
 use native.Mathlib.Omega.{arith}
 use lib.Dec.{eqb, leb, ltb}
 use lib.ListN.{length, getD, length-map, length-set}
-use borrow.Author.Tests.{leb-true, leb-false, ltb-true, eqb-true, not-false}
+use borrow.Author.Tests.{leb-true, leb-false, ltb-true, ltb-false, eqb-true, not-false}
 use Rattle.blocks.specs.Blocks.{block, setBlock, Bytes}
-use Rattle.code.specs.Decode.{NodeSet}
+use Rattle.code.specs.Decode.{NodeSet, size, recoveredTable}
 use Rattle.records.specs.declared.Sizes.{Sizes}
 use Rattle.records.specs.declared.Epoch.{Epoch}
 use Rattle.records.specs.declared.Lmode.{Lmode}
@@ -28,7 +28,7 @@ use Rattle.machine.specs.Stripe.{Stripe, Answer, Accepted, Rebuilt, Refu
 use Rattle.machine.specs.Calls.{Call, step}
 use Rattle.machine.specs.Calls as Calls
 use Rattle.machine.specs.Rebuild as Rebuild
-use Rattle.machine.specs.Rebuild.{advanced, holding, outOfLimits, restored, someRecons}
+use Rattle.machine.specs.Rebuild.{advanced, holding, outOfLimits, restored, someRecons, pickedSet, countInit, neededSize, largestEpoch}
 use Rattle.machine.specs.Writing.{stop}
 use Rattle.gf256.proofs.Computed.{and-left, and-right}
 use Rattle.machine.proofs.Base.{upd, clash, or-one, or-none, cond-ind}
@@ -37,11 +37,13 @@ use Rattle.machine.proofs.Ledger as Ledger
 use Rattle.machine.proofs.Ledger.{Ledger, note}
 use Rattle.machine.proofs.Invariant.{Laws, IsNode, Good, wasExp}
 use Rattle.machine.proofs.Bytes.{Block, blockOf, ops}
-use Rattle.machine.proofs.View.{columns, lockOf, lockIn, withNode, withClient, withNodes, put-node, put-client, upd-keep, held-is, locked-is, exp-is}
+use Rattle.machine.proofs.View.{columns, lockOf, lockIn, withNode, withClient, withNodes, put-node, put-client, upd-keep, setAt-length, held-is, l1-is, locked-is, exp-is}
 use Rattle.machine.proofs.Kept.{Fits, Kept, KeptWhole, entry, whole-refused, whole-guard}
-use Rattle.machine.proofs.Tables.{put-block, length-put, length-block, bytes-put, bytes-block, block-view}
-use Rattle.machine.proofs.Elements.{length-setAt, every-at, none-at, map-at, length-from, from-at, length-restored, restored-first, restored-rest, unl-or-exp}
+use Rattle.machine.proofs.Tables.{put-block, length-put, length-block, bytes-put, bytes-block, block-view, length-rebuilt, bytes-rebuilt, rebuilt-blocks}
+use Rattle.machine.proofs.Elements.{every-at, none-at, map-at, length-from, from-at, length-restored, restored-first, restored-rest, unl-or-exp, epoch-at-most}
+use Rattle.machine.proofs.Candidates.{picked-candidate}
 use Rattle.machine.proofs.Locks.{expired, givenBack, LocksNext, relocked, lost, stopped, lost-good, stopped-good, gaveBack-good, locked-good, weakened-good, tightened-good, unlocked-good}
+use Rattle.machine.proofs.Pick.{picked, picked-good}
 use Rattle.machine.proofs.Write.{written, written-good}
 use Rattle.machine.proofs.Settle.{settled, settled-good}
 
@@ -129,12 +131,15 @@ module _ (z : Sizes) (L : Laws (ops z)) (h : Ledger Block) (s : Stripe) (g : Goo
   refuses : (x : Call) (why : Refusal) → KeptBy x (refused why w)
   refuses x why = whole-refused z h s g f x c why
 
+  tested : (x : Call) (test : Bool) (why : Refusal) (rest : Outcome Whole) → (test ≡ false → KeptBy x rest) → KeptBy x (guard test why w rest)
+  tested x = whole-guard z h s g f x c
+
   begins : (x : Call) (test : Bool) (rest : Rebuild → Outcome Whole) → (test ≡ false → outOfLimits z w ≡ false) → ((p : Rebuild) → In p → KeptBy x (rest p)) →
       KeptBy x (guard test OutOfLimits w (guard (not (isClient z c)) OutOfRange w (rest (C .phase c))))
   unfolding clientWithin
   begins x test rest limits k =
-      whole-guard z h s g f x c test OutOfLimits (guard (not (isClient z c)) OutOfRange w (rest (C .phase c)))
-      (λ e. whole-guard z h s g f x c (not (isClient z c)) OutOfRange (rest (C .phase c))
+      tested x test OutOfLimits (guard (not (isClient z c)) OutOfRange w (rest (C .phase c)))
+      (λ e. tested x (not (isClient z c)) OutOfRange (rest (C .phase c))
       (λ r.
       let l : (sizesWithin z && (nodesFit z (s .nodes) && clientWithin z client)) ≡ true = not-false _ (limits e) in
       let i : isClient z c ≡ true = not-false _ r in
@@ -151,7 +156,7 @@ module _ (z : Sizes) (L : Laws (ops z)) (h : Ledger Block) (s : Stripe) (g : Goo
           good = subst (λ D. Good (ops z) (note (ops z) h (entry z x a) (D .block)) D) (sym (put-client z s' c y (t .low) (rw (f .clients) (t .high)) ∙ same)) good;
           fits = record {
             nodes = ln;
-            clients = length-setAt (s .clients) c y ∙ f .clients;
+            clients = setAt-length (s .clients) c y ∙ f .clients;
             blocks = bt .size;
             spare = st .size;
             differences = f .differences;
@@ -199,7 +204,7 @@ module _ (z : Sizes) (L : Laws (ops z)) (h : Ledger Block) (s : Stripe) (g : Goo
         setPhases (upd (C .phase) c p') (withNode (setBlocks (blockOf (z .b) blocks') C) j y) ≡ C' → Good (ops z) (note (ops z) h (entry z x a) (C' .block)) C' →
         KeptBy x (answered a (record { nodes = setAt (s .nodes) j y; client = withRebuild p' client; blocks = blocks'; spare = s .spare }))
     set-kept x a j y p' blocks' b bt C' same =
-        put-kept x a (setAt (s .nodes) j y) (withRebuild p' client) blocks' (s .spare) (length-setAt (s .nodes) j y ∙ f .nodes) bt spare-table C'
+        put-kept x a (setAt (s .nodes) j y) (withRebuild p' client) blocks' (s .spare) (setAt-length (s .nodes) j y ∙ f .nodes) bt spare-table C'
         (ap (λ D. withClient D c (withRebuild p' client)) (put-node z tables j y (b .low) (rw (f .nodes) (b .high)))
         ∙ rw (upd-keep (C .hand) c, upd-keep (C .finished) c, upd-keep (C .next) c) same)
       where
@@ -280,7 +285,7 @@ module _ (z : Sizes) (L : Laws (ops z)) (h : Ledger Block) (s : Stripe) (g : Goo
       go NoRebuild i = refuses (Calls.Weaken c) OutOfPhase
       go (Locking old) i = refuses (Calls.Weaken c) OutOfPhase
       go (Picking zero) i =
-          whole-guard z h s g f (Calls.Weaken c) c (someRecons (s .nodes)) OutOfPhase _
+          tested (Calls.Weaken c) (someRecons (s .nodes)) OutOfPhase _
           (λ none. needing (i .1) (Calls.Weaken c) (everyOf (Node.heldBy c) (s .nodes)) _ (λ held. weakens i none held))
       go (Picking (suc y)) i = refuses (Calls.Weaken c) OutOfPhase
       go (Writing y u e) i = refuses (Calls.Weaken c) OutOfPhase
@@ -330,7 +335,7 @@ module _ (z : Sizes) (L : Laws (ops z)) (h : Ledger Block) (s : Stripe) (g : Goo
   unfolding step Rebuild.quit
   quit-kept =
       begins (Calls.Quit c) (outOfLimits z w) (λ p. guard (not (hasRebuild p)) OutOfPhase w (answered Accepted (Rebuild.lost c w))) (λ e. e)
-      (λ p i. whole-guard z h s g f (Calls.Quit c) c (not (hasRebuild p)) OutOfPhase _ (λ r. lost-kept (i .1) (Calls.Quit c) Accepted (lost-good (ops z) h C g c)))
+      (λ p i. tested (Calls.Quit c) (not (hasRebuild p)) OutOfPhase _ (λ r. lost-kept (i .1) (Calls.Quit c) Accepted (lost-good (ops z) h C g c)))
 
   pub stop-kept : Kept z h (Calls.Stop c) (step z (Calls.Stop c) s)
   unfolding step stop
@@ -341,6 +346,42 @@ module _ (z : Sizes) (L : Laws (ops z)) (h : Ledger Block) (s : Stripe) (g : Goo
     where
       nodes' : List Node
       nodes' = map (expiredFor c) (s .nodes)
+
+  ---- Pick
+  abbrev chosen : NodeSet
+  chosen = pickedSet z (s .nodes)
+
+  abbrev top : Epoch
+  top = record { 0 = largestEpoch (s .nodes) }
+
+  enough : ltb (size chosen) (neededSize z (s .nodes)) ≡ false → z .k ≤ size chosen
+  enough e =
+      let a = ltb-false (size chosen) (neededSize z (s .nodes)) e in
+      let b = cond-ind (λ m. z .k ≤ m) (someRecons (s .nodes)) (z .k) (z .k + (z .failures - countInit (s .nodes))) (λ q. omega arith) (λ q. omega arith) in
+      omega arith
+
+  picks : In (Picking 0) → everyOf (Node.heldAtL1 c) (s .nodes) ≡ true → z .k ≤ size chosen → KeptBy (Calls.Pick c) (answered Accepted (Rebuild.picked z chosen (largestEpoch (s .nodes)) w))
+  picks i held many =
+      put-kept (i .1) (Calls.Pick c) Accepted (s .nodes) (withRebuild (Writing 1 chosen top) client) (s .blocks) (recoveredTable (z .k) (z .n) (z .b) chosen (s .blocks)) (f .nodes)
+      (blocks-table (i .1)) (record { size = length-rebuilt z chosen (s .blocks); bytes = bytes-rebuilt z chosen (s .blocks) }) (picked (ops z) c chosen top C)
+      (rw (upd-keep (C .hand) c, upd-keep (C .finished) c, upd-keep (C .next) c, rebuilt-blocks z chosen (s .blocks) many))
+      (picked-good (ops z) L h C g c chosen top (picked-candidate z s (f .nodes) (L .n-18)) many
+      (λ j b. l1-is c (nodeAt (s .nodes) j) (every-at failedNode (Node.heldAtL1 c) (s .nodes) held j (b .low) (rw (f .nodes) (b .high)))) (λ j b. epoch-at-most (s .nodes) j))
+
+  pub pick-kept : Kept z h (Calls.Pick c) (step z (Calls.Pick c) s)
+  unfolding step Rebuild.pick Rebuild.pickIn Rebuild.pickNow
+  pick-kept = begins (Calls.Pick c) (outOfLimits z w || not (blocksFit z (s .blocks) && blocksFit z (s .spare))) (λ p. Rebuild.pickIn z c p w) (λ e. or-none (outOfLimits z w) _ e .0) go
+    where
+      go : (p : Rebuild) → In p → KeptBy (Calls.Pick c) (Rebuild.pickIn z c p w)
+      go NoRebuild i = refuses (Calls.Pick c) OutOfPhase
+      go (Locking old) i = refuses (Calls.Pick c) OutOfPhase
+      go (Picking zero) i =
+          tested (Calls.Pick c) _ _ _ (λ r8. needing (i .1) (Calls.Pick c) (everyOf (Node.heldAtL1 c) (s .nodes)) _
+          (λ held. tested (Calls.Pick c) _ _ _ (λ r11. tested (Calls.Pick c) _ _ _ (λ r12. picks i held (enough r11)))))
+      go (Picking (suc y)) i = refuses (Calls.Pick c) OutOfPhase
+      go (Writing y u e) i = refuses (Calls.Pick c) OutOfPhase
+      go (Settling y e) i = refuses (Calls.Pick c) OutOfPhase
+      go (Unlocking y) i = refuses (Calls.Pick c) OutOfPhase
 
   ---- Write, Settle
   module _ (j : ℕ) (set : NodeSet) (e : Epoch) (i : In (Writing j set e)) where

@@ -26,6 +26,7 @@ pub mod CodeLaws
 pub mod KeptStart
 pub mod KeptWriting
 pub mod Elements
+pub mod Candidates
 pub mod KeptRebuild
 pub mod Told
 pub mod Limits
