@@ -5,6 +5,7 @@ use Prim.Native.Nat.{ℕ, zero, suc, _≤_}
 use native.Mathlib.Omega.{arith}
 use Rattle.gf256.proofs.Laws.{product-add, product-left, product-zero}
 use Rattle.code.specs.Code.{sum}
+use Rattle.code.proofs.Sum.{All}
 use Rattle.code.proofs.Ring.{_⊕_, _⊗_, ring, one-times, Nonzero, cancel}
 
 -- f is a polynomial function of degree below m: it is 0, or its divided difference at each a is one of degree below m − 1
@@ -41,7 +42,7 @@ degree-factor (suc m) b f d =
       λ t. rw (p t) (simp ring),
     )
 
-pub degree-sum : (n m : ℕ) (f : ℕ → ℕ → ℕ) → ((i : ℕ) → 1 ≤ i → i ≤ n → Degree m (f i)) → Degree m (λ t. sum n (λ i. f i t))
+pub degree-sum : (n m : ℕ) (f : ℕ → ℕ → ℕ) → All n (λ i. Degree m (f i)) → Degree m (λ t. sum n (λ i. f i t))
 unfolding sum
 degree-sum zero m f d = degree-zero m
 degree-sum (suc n) m f d =
@@ -57,14 +58,14 @@ split : (a : ℕ) (f h : ℕ → ℕ) → ((t : ℕ) → f t ≡ f a ⊕ (t ⊕ 
 split a f h e z t = rw (e t, product-add 1 (f a) ((t ⊕ a) ⊗ h t), z, one-times (t ⊕ a) (h t))
 
 -- of degree below m and with m roots that lie apart: it is 0, but for what 1 takes away, all above the low byte
-pub roots : (m : ℕ) (f p : ℕ → ℕ) → Degree m f → ((a b : ℕ) → 1 ≤ a → a ≤ m → 1 ≤ b → b ≤ m → a ≢ b → Nonzero (p a ⊕ p b))
-    → ((i : ℕ) → 1 ≤ i → i ≤ m → 1 ⊗ f (p i) ≡ 0) → (t : ℕ) → 1 ⊗ f t ≡ 0
+pub roots : (m : ℕ) (f p : ℕ → ℕ) → Degree m f → All m (λ a. All m (λ b. a ≢ b → Nonzero (p a ⊕ p b)))
+    → All m (λ i. 1 ⊗ f (p i) ≡ 0) → (t : ℕ) → 1 ⊗ f t ≡ 0
 roots zero f p d far z t = rw (d t) (product-zero 1)
 roots (suc m) f p d far z t =
     let (h, dh, e) = d (p (suc m)) in
     let f-splits = split (p (suc m)) f h e (z (suc m) (omega arith) (omega arith)) in
     let h-roots : (i : ℕ) → 1 ≤ i → i ≤ m → 1 ⊗ h (p i) ≡ 0 =
-    λ i l1 lm. cancel (p i ⊕ p (suc m)) (h (p i)) (far i (suc m) l1 (omega arith) (omega arith) (omega arith) (omega arith))
+    λ i l1 lm. cancel (p i ⊕ p (suc m)) (h (p i)) (far i l1 (omega arith) (suc m) (omega arith) (omega arith) (omega arith))
     (sym (f-splits (p i)) ∙ z i l1 (omega arith)) in
-    let h-zero = roots m h p dh (λ a b a1 am b1 bm. far a b a1 (omega arith) b1 (omega arith)) h-roots t in
+    let h-zero = roots m h p dh (λ a a1 am b b1 bm. far a a1 (omega arith) b b1 (omega arith)) h-roots t in
     f-splits t ∙ sym (one-times (t ⊕ p (suc m)) (h t)) ∙ product-left 1 (t ⊕ p (suc m)) (h t) ∙ rw h-zero (product-zero (t ⊕ p (suc m)))

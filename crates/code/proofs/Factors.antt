@@ -10,7 +10,7 @@ use Rattle.gf256.proofs.Laws.{product-left, zero-product}
 use Rattle.code.specs.Code.{sum}
 use Rattle.code.specs.Decode.{others}
 use Rattle.code.proofs.Ring.{_⊕_, _⊗_, ring, Nonzero, nonzero-times}
-use Rattle.code.proofs.Sum.{sum-one}
+use Rattle.code.proofs.Sum.{All, sum-one}
 use Rattle.code.proofs.Degree.{Degree, degree-constant, degree-factor, degree-times, degree-sum, degree-ext}
 
 module _ (s : ℕ → ℕ) where
@@ -55,7 +55,7 @@ module _ (s : ℕ → ℕ) where
       by (no n) (inr l) ih = rw (others-more k p (s q - 1) n, ih (le-of-suc-le-suc l)) (simp ring)
 
   -- and where t lies apart from the others it is not
-  pub others-nonzero : (k q t : ℕ) → ((l : ℕ) → 1 ≤ l → l ≤ k → l ≢ q → Nonzero (t ⊕ (s l - 1))) → Nonzero (others s k q t)
+  pub others-nonzero : (k q t : ℕ) → All k (λ l. l ≢ q → Nonzero (t ⊕ (s l - 1))) → Nonzero (others s k q t)
   unfolding others
   others-nonzero zero q t far = omega arith
   others-nonzero (suc k) q t far = by (ℕ-discrete q (suc k)) (others-nonzero k q t (λ l l1 lk. far l l1 (omega arith)))

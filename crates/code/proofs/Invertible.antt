@@ -7,11 +7,12 @@ use native.Mathlib.Decide.{ℕ-discrete, decLe}
 use native.Mathlib.Omega.{arith}
 use lib.Dec.{eqb}
 use borrow.Author.Tests.{eq-eqb, ne-eqb, le-leb, lt-leb}
+use Rattle.gf256.proofs.Computed.{never-both}
 use Rattle.gf256.proofs.Laws.{product-comm, product-zero, one-product, inverse-byte}
 use Rattle.code.specs.Code.{coefficient, row, symbol}
 use Rattle.code.specs.Decode.{recovered, each, invertible}
 use Rattle.code.proofs.Ring.{_⊕_, _⊗_}
-use Rattle.code.proofs.Sum.{sum-one}
+use Rattle.code.proofs.Sum.{All, sum-one}
 use Rattle.code.proofs.Symbols.{symbol-data, symbol-redundant}
 use Rattle.code.proofs.Recover.{Chosen, recovered-byte, recover-agrees, recover-symbol}
 
@@ -19,12 +20,12 @@ use Rattle.code.proofs.Recover.{Chosen, recovered-byte, recover-agrees,
 
 -- x are data of which the nodes s 1, .. s k hold y
 pub record Solves (k : ℕ) (s y x : ℕ → ℕ) : Type 0 where
-  pub bytes : (i : ℕ) → 1 ≤ i → i ≤ k → x i < 256
-  pub holds : (q : ℕ) → 1 ≤ q → q ≤ k → symbol k (s q) x ≡ y q
+  pub bytes : All k (λ i. x i < 256)
+  pub holds : All k (λ q. symbol k (s q) x ≡ y q)
 
 -- whatever bytes the nodes hold, some data have them
 abbrev pub Invertible : ℕ → (ℕ → ℕ) → Type 0
-Invertible k s = (y : ℕ → ℕ) → ((q : ℕ) → 1 ≤ q → q ≤ k → y q < 256) → (x : ℕ → ℕ) × Solves k s y x
+Invertible k s = (y : ℕ → ℕ) → All k (λ q. y q < 256) → (x : ℕ → ℕ) × Solves k s y x
 
 pub chosen-invertible : (k : ℕ) (s : ℕ → ℕ) → k ≤ 256 → Chosen k s → Invertible k s
 chosen-invertible k s lk c y b =
@@ -32,7 +33,7 @@ chosen-invertible k s lk c y b =
 
 -- ---- the test
 
-each-true : (k : ℕ) (p : ℕ → Bool) → ((i : ℕ) → 1 ≤ i → i ≤ k → p i ≡ true) → each k p ≡ true
+each-true : (k : ℕ) (p : ℕ → Bool) → All k (λ i. p i ≡ true) → each k p ≡ true
 unfolding each
 each-true zero p e = refl
 each-true (suc k) p e = rw (each, e (suc k) (omega arith) (omega arith), each-true k p (λ i i1 ik. e i i1 (omega arith)))
@@ -89,7 +90,7 @@ pub invertible-decides : (k : ℕ) (s : ℕ → ℕ) → k ≤ 256 → Chosen k 
 invertible-decides k s lk c =
     record {
       right = λ e. chosen-invertible k s lk c;
-      wrong = λ e. let z : _≡_ {A = ℕ} 0 1 = cc (invertible-chosen k s lk c) in absurd (omega arith);
+      wrong = λ e inverse. never-both (invertible k s) (invertible-chosen k s lk c) e;
     }
 
 -- and a node given twice has no inverse

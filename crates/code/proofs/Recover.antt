@@ -12,28 +12,28 @@ use Rattle.gf256.proofs.Xor.{xor-self}
 use Rattle.code.specs.Code.{coefficient, symbol}
 use Rattle.code.specs.Decode.{others, scale, recover, recovered}
 use Rattle.code.proofs.Ring.{_⊕_, _⊗_, ring, one-times, sum-zero-eq, Nonzero, inverse-times, undo, apart}
-use Rattle.code.proofs.Sum.{sum-ext, sum-times, sum-byte}
+use Rattle.code.proofs.Sum.{All, sum-ext, sum-times, sum-byte}
 use Rattle.code.proofs.Degree.{Degree, degree-add, roots}
 use Rattle.code.proofs.Factors.{others-all, others-nonzero, poly, poly-degree, poly-at}
 use Rattle.code.proofs.Symbols.{symbol-data, symbol-redundant, symbol-byte}
 
 -- s 1, .. s k are k distinct nodes
 pub record Chosen (k : ℕ) (s : ℕ → ℕ) : Type 0 where
-  pub from : (q : ℕ) → 1 ≤ q → q ≤ k → 1 ≤ s q
-  pub to : (q : ℕ) → 1 ≤ q → q ≤ k → s q ≤ 256
-  pub distinct : (p q : ℕ) → 1 ≤ p → p ≤ k → 1 ≤ q → q ≤ k → p ≢ q → s p ≢ s q
+  pub from : All k (λ q. 1 ≤ s q)
+  pub to : All k (λ q. s q ≤ 256)
+  pub distinct : All k (λ p. All k (λ q. p ≢ q → s p ≢ s q))
 
-chosen-apart : (k : ℕ) (s : ℕ → ℕ) → Chosen k s → (p q : ℕ) → 1 ≤ p → p ≤ k → 1 ≤ q → q ≤ k → p ≢ q → Nonzero ((s p - 1) ⊕ (s q - 1))
-chosen-apart k s c p q p1 pk q1 qk h =
-    apart (s p) (s q) (c .from p p1 pk) (c .to p p1 pk) (c .from q q1 qk) (c .to q q1 qk) (c .distinct p q p1 pk q1 qk h)
+chosen-apart : (k : ℕ) (s : ℕ → ℕ) → Chosen k s → All k (λ p. All k (λ q. p ≢ q → Nonzero ((s p - 1) ⊕ (s q - 1))))
+chosen-apart k s c p p1 pk q q1 qk h =
+    apart (s p) (s q) (c .from p p1 pk) (c .to p p1 pk) (c .from q q1 qk) (c .to q q1 qk) (c .distinct p p1 pk q q1 qk h)
 
 -- the data nodes
 data-chosen : (k : ℕ) → k ≤ 256 → Chosen k (λ i. i)
-data-chosen k lk = record { from = λ q q1 qk. q1; to = λ q q1 qk. omega arith; distinct = λ p q p1 pk q1 qk h. h }
+data-chosen k lk = record { from = λ q q1 qk. q1; to = λ q q1 qk. omega arith; distinct = λ p p1 pk q q1 qk h. h }
 
 -- polynomial functions of degree below k that agree at k points agree, under a factor
 same-values : (k : ℕ) (s f g : ℕ → ℕ) → Chosen k s → Degree k f → Degree k g
-    → ((q : ℕ) → 1 ≤ q → q ≤ k → 1 ⊗ f (s q - 1) ≡ 1 ⊗ g (s q - 1)) → (u t : ℕ) → u ⊗ f t ≡ u ⊗ g t
+    → All k (λ q. 1 ⊗ f (s q - 1) ≡ 1 ⊗ g (s q - 1)) → (u t : ℕ) → u ⊗ f t ≡ u ⊗ g t
 same-values k s f g c df dg e u t =
     let none : 1 ⊗ (f t ⊕ g t) ≡ 0 =
     roots k (λ t. f t ⊕ g t) (λ q. s q - 1) (degree-add k f g df dg) (chosen-apart k s c)
@@ -71,7 +71,7 @@ poly-node k j x lk j1 lj = by (decLe j k)
 
 -- it depends on the low bytes of y 1, .. y k, and is a byte
 module _ (k : ℕ) (s : ℕ → ℕ) where
-  pub recovered-ext : (y z : ℕ → ℕ) (j : ℕ) → ((q : ℕ) → 1 ≤ q → q ≤ k → y q ≡ z q) → recovered k s y j ≡ recovered k s z j
+  pub recovered-ext : (y z : ℕ → ℕ) (j : ℕ) → All k (λ q. y q ≡ z q) → recovered k s y j ≡ recovered k s z j
   unfolding recovered
   recovered-ext y z j e =
       sum-ext k (λ q. recover k s j q ⊗ y q) (λ q. recover k s j q ⊗ z q) (λ q q1 qk. rw (e q q1 qk))
@@ -90,12 +90,12 @@ module _ (k : ℕ) (s : ℕ → ℕ) (lk : k ≤ 256) (c : Chosen k s) (y : ℕ 
   abbrev part : ℕ → ℕ
   part q = scale k (s q) ⊗ inverse (others s k q (s q - 1)) ⊗ y q
 
-  through : (q : ℕ) → 1 ≤ q → q ≤ k → poly s k part (s q - 1) ≡ scale k (s q) ⊗ y q
+  through : All k (λ q. poly s k part (s q - 1) ≡ scale k (s q) ⊗ y q)
   through q q1 qk =
       poly-at s k part q q1 qk
       ∙ swap (others s k q (s q - 1)) (inverse (others s k q (s q - 1))) (scale k (s q)) (y q)
       (inverse-times (others s k q (s q - 1))
-      (others-nonzero s k q (s q - 1) (λ l l1 lk h. chosen-apart k s c q l q1 qk l1 lk (λ e. h (sym e)))))
+      (others-nonzero s k q (s q - 1) (λ l l1 lk h. chosen-apart k s c q q1 qk l l1 lk (λ e. h (sym e)))))
     where
       swap : (w v a b : ℕ) → v ⊗ w ≡ 1 → w ⊗ (a ⊗ v ⊗ b) ≡ a ⊗ b
       swap w v a b e = sym (sym (one-times a b) ∙ rw (← e) (simp ring))
@@ -114,9 +114,9 @@ module _ (k : ℕ) (s : ℕ → ℕ) (lk : k ≤ 256) (c : Chosen k s) (y : ℕ 
       (undo (inverse (scale k (s q))) (scale k (s q)) (y q) (scale-inverse k (s q) lk (c .from q q1 qk) (c .to q q1 qk)) ∙ one-product (y q) b)
 
   -- data x whose polynomial agrees at k points with the one through the chosen nodes: their codeword is what is recovered
-  same-codeword : (x m : ℕ → ℕ) → ((i : ℕ) → 1 ≤ i → i ≤ k → x i < 256) → Chosen k m
-      → ((q : ℕ) → 1 ≤ q → q ≤ k → 1 ⊗ poly s k part (m q - 1) ≡ 1 ⊗ poly (λ i. i) k x (m q - 1))
-      → (j : ℕ) → 1 ≤ j → j ≤ 256 → recovered k s y j ≡ symbol k j x
+  same-codeword : (x m : ℕ → ℕ) → All k (λ i. x i < 256) → Chosen k m
+      → All k (λ q. 1 ⊗ poly s k part (m q - 1) ≡ 1 ⊗ poly (λ i. i) k x (m q - 1))
+      → All 256 (λ j. recovered k s y j ≡ symbol k j x)
   same-codeword x m bytes cm e j j1 lj =
       recovered-poly j
       ∙ same-values k m (poly s k part) (poly (λ i. i) k x) cm (poly-degree s k part) (poly-degree (λ i. i) k x) e (inverse (scale k j)) (j - 1)
@@ -124,7 +124,7 @@ module _ (k : ℕ) (s : ℕ → ℕ) (lk : k ≤ 256) (c : Chosen k s) (y : ℕ 
       (undo (inverse (scale k j)) (scale k j) (symbol k j x) (scale-inverse k j lk j1 lj) ∙ one-product (symbol k j x) (symbol-byte k j x j1 bytes))
 
   -- what is recovered is a codeword
-  pub recovered-codeword : (j : ℕ) → 1 ≤ j → j ≤ 256 → recovered k s y j ≡ symbol k j (recovered k s y)
+  pub recovered-codeword : All 256 (λ j. recovered k s y j ≡ symbol k j (recovered k s y))
   recovered-codeword =
       same-codeword (recovered k s y) (λ i. i) (λ i i1 ik. recovered-byte k s y i) (data-chosen k lk)
       (λ i i1 ik.
@@ -139,13 +139,13 @@ module _ (k : ℕ) (s : ℕ → ℕ) (lk : k ≤ 256) (c : Chosen k s) (y : ℕ 
   recover-agrees q q1 qk b = sym (recovered-codeword (s q) (c .from q q1 qk) (c .to q q1 qk)) ∙ recovered-present q q1 qk b
 
   -- REBUILDING: where of the data x the chosen nodes hold y, every node holds what is recovered
-  pub recover-symbol : (x : ℕ → ℕ) → ((i : ℕ) → 1 ≤ i → i ≤ k → x i < 256) → ((q : ℕ) → 1 ≤ q → q ≤ k → symbol k (s q) x ≡ y q)
-      → (j : ℕ) → 1 ≤ j → j ≤ 256 → recovered k s y j ≡ symbol k j x
+  pub recover-symbol : (x : ℕ → ℕ) → All k (λ i. x i < 256) → All k (λ q. symbol k (s q) x ≡ y q)
+      → All 256 (λ j. recovered k s y j ≡ symbol k j x)
   recover-symbol x bytes holds =
       same-codeword x s bytes c
       (λ q q1 qk. rw (poly-node k (s q) x lk (c .from q q1 qk) (c .to q q1 qk), holds q q1 qk, through q q1 qk))
 
   -- UNIQUENESS: no other data have this
-  pub recover-only : (x : ℕ → ℕ) → ((i : ℕ) → 1 ≤ i → i ≤ k → x i < 256) → ((q : ℕ) → 1 ≤ q → q ≤ k → symbol k (s q) x ≡ y q)
-      → (i : ℕ) → 1 ≤ i → i ≤ k → recovered k s y i ≡ x i
+  pub recover-only : (x : ℕ → ℕ) → All k (λ i. x i < 256) → All k (λ q. symbol k (s q) x ≡ y q)
+      → All k (λ i. recovered k s y i ≡ x i)
   recover-only x bytes holds i i1 ik = recover-symbol x bytes holds i i1 (omega arith) ∙ symbol-data k i x ik

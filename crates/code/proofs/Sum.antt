@@ -8,12 +8,16 @@ use Rattle.gf256.proofs.Xor.{xor-zero-r, xor-byte}
 use Rattle.code.specs.Code.{sum}
 use Rattle.code.proofs.Ring.{_⊕_, _⊗_, ring}
 
-pub sum-ext : (k : ℕ) (f g : ℕ → ℕ) → ((i : ℕ) → 1 ≤ i → i ≤ k → f i ≡ g i) → sum k f ≡ sum k g
+-- P holds of 1 to k
+abbrev pub All : ℕ → (ℕ → Type 0) → Type 0
+All k P = (i : ℕ) → 1 ≤ i → i ≤ k → P i
+
+pub sum-ext : (k : ℕ) (f g : ℕ → ℕ) → All k (λ i. f i ≡ g i) → sum k f ≡ sum k g
 unfolding sum
 sum-ext zero f g e = refl
 sum-ext (suc k) f g e = rw (sum, e (suc k) (omega arith) (omega arith), sum-ext k f g (λ i l1 lk. e i l1 (omega arith)))
 
-pub sum-zero : (k : ℕ) (f : ℕ → ℕ) → ((i : ℕ) → 1 ≤ i → i ≤ k → f i ≡ 0) → sum k f ≡ 0
+pub sum-zero : (k : ℕ) (f : ℕ → ℕ) → All k (λ i. f i ≡ 0) → sum k f ≡ 0
 unfolding sum
 sum-zero zero f z = refl
 sum-zero (suc k) f z = rw (sum, z (suc k) (omega arith) (omega arith), sum-zero k f (λ i l1 lk. z i l1 (omega arith)))
@@ -29,7 +33,7 @@ sum-times zero c f = simp ring
 sum-times (suc k) c f = rw (sum, sum-times k c f) (simp ring)
 
 -- a sum all of whose terms but one are 0
-pub sum-one : (k : ℕ) (f : ℕ → ℕ) (j : ℕ) → 1 ≤ j → j ≤ k → ((i : ℕ) → 1 ≤ i → i ≤ k → i ≢ j → f i ≡ 0) → sum k f ≡ f j
+pub sum-one : (k : ℕ) (f : ℕ → ℕ) (j : ℕ) → 1 ≤ j → j ≤ k → All k (λ i. i ≢ j → f i ≡ 0) → sum k f ≡ f j
 unfolding sum
 sum-one zero f j l1 lk z = absurd (omega arith)
 sum-one (suc k) f j l1 lk z = by (eq-or-lt-of-le lk) (λ l. sum-one k f j l1 l (λ i i1 ik. z i i1 (omega arith)))
@@ -38,7 +42,7 @@ sum-one (suc k) f j l1 lk z = by (eq-or-lt-of-le lk) (λ l. sum-one k f j l1 l (
     by (inl e) ih = rw (sum-zero k f (λ i i1 ik. z i i1 (omega arith) (omega arith)), e)
     by (inr l) ih = rw (ih (le-of-suc-le-suc l), z (suc k) (omega arith) (omega arith) (omega arith)) (xor-zero-r (f j))
 
-pub sum-byte : (k : ℕ) (f : ℕ → ℕ) → ((i : ℕ) → 1 ≤ i → i ≤ k → f i < 256) → sum k f < 256
+pub sum-byte : (k : ℕ) (f : ℕ → ℕ) → All k (λ i. f i < 256) → sum k f < 256
 unfolding sum
 sum-byte zero f b = omega arith
 sum-byte (suc k) f b =

@@ -3,13 +3,14 @@ use mathlib.Core.Path.{_≡_, refl, sym, ap, ap₂, subst, _∙_}
 use mathlib.Core.Logic.{_≢_, _⊎_, inl, inr}
 use mathlib.Core.Bool.{Bool, true, false, _||_}
 use mathlib.Core.List.{List, [], _∷_, _++_}
-use mathlib.Core.Option.{Option, none, some}
+use mathlib.Core.Option.{none, some}
 use Prim.Native.Nat.{ℕ, zero, suc, _≤_, _<_}
-use native.Mathlib.Nat.{le-trans}
 use native.Mathlib.Omega.{arith}
 use Rattle.code.specs.Decode.{has, including}
+use Rattle.records.specs.declared.Entry.{Entry}
 use Rattle.records.specs.declared.WriteId.{WriteId}
-use Rattle.records.specs.declared.Previous.the-variants.{Id}
+use Rattle.records.specs.declared.Previous.{Previous}
+use Rattle.records.specs.declared.Previous.the-variants.{Nothing, Id}
 use Rattle.records.specs.Entries.{sameId, isListed, isIn, enter}
 use Rattle.records.specs.Node.{isInit, isNorm}
 use Rattle.records.specs.Client.{Write}
@@ -17,11 +18,16 @@ use Rattle.machine.specs.Writing.{withDone}
 use Rattle.machine.proofs.Base.{upd, upd-same, upd-other, upd-ind, each-place, clash, is-false, some-same, not-some, or-one}
 use Rattle.machine.proofs.EntryLaws.{same-id, in-snoc}
 use Rattle.machine.proofs.Columns.{Ops, isUnl, isL0, Columns, setBlocks, setEntries, setHands, setFinished}
-use Rattle.machine.proofs.Ledger.{Ledger, Swapped, IsPos, noteDone, upd2}
+use Rattle.machine.proofs.Ledger.{Ledger, noteDone, upd2}
 use Rattle.machine.proofs.Invariant.{Ghost, Laws, code, Spot, at, IdsOk, Own, HandOk, FinishedOk, Inv, Good}
 use Rattle.machine.proofs.Frame.{of-live, counted, norm-live, upd2-same, upd2-pos, upd2-ind, code-red}
 use Rattle.machine.proofs.Sets.{including-same, including-other}
 use Rattle.machine.proofs.Entering.{Takes, all-norm, all-unwritten, Everywhere, DoneThen, Enters, entered, entered-hand, entered-inv}
+
+-- "The previous id, if any, must be listed there"
+abbrev pub previousListed : Previous → List Entry → Bool
+previousListed Nothing es = true
+previousListed (Id x) es = isListed x es
 
 module _ (O : Ops) where
   open Ops O using (B, k, n, diff, mulAdd, parity)
@@ -35,7 +41,7 @@ module _ (O : Ops) where
     pub norm : isNorm (s .op j) ≡ true
     pub lock : (isUnl (s .lock j) || isL0 (s .lock j)) ≡ true
     pub epoch : s .epoch j ≤ w .epoch .0
-    pub previous : (x : WriteId) → w .previous ≡ Id x → isListed x (s .entries j) ≡ true
+    pub previous : previousListed (w .previous) (s .entries j) ≡ true
 
   -- the write in node j; then in hand still, or done
   abbrev pub addedTo : Columns B → ℕ → ℕ → Write → Columns B
@@ -89,7 +95,7 @@ module _ (O : Ops) where
         in-list (suc p) high e = let a = counted O I j i (suc p) (omega arith) high e .1 in let b = all-unwritten O I takes j live .same i spot in omega arith
 
         go : (w .previous ≡ Id (G .idOf i q)) ⊎ (h .done i q ≡ true) → q ≤ G .inBlock j i
-        go (inl e) = in-list q (let a = own .high in omega arith) (M .previous (G .idOf i q) e)
+        go (inl e) = in-list q (let a = own .high in omega arith) (subst (λ p. previousListed p (s .entries j) ≡ true) e (M .previous))
         go (inr e) = I .node j .live live .between i spot .least q e
 
     before : G .inBlock j i ≡ q

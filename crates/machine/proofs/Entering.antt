@@ -1,10 +1,10 @@
 -- A write's id enters a node's list and its value the node's block: what swap and add share. Assumes nothing.
-use mathlib.Core.Path.{_≡_, refl, sym, ap, subst, _∙_}
+use mathlib.Core.Path.{_≡_, refl, sym, ap, _∙_}
 use mathlib.Core.Logic.{_≢_, _⊎_, inl, inr}
 use mathlib.Core.Bool.{Bool, true, false, _||_}
 use mathlib.Core.List.{List}
 use mathlib.Core.Option.{Option, some}
-use Prim.Native.Nat.{ℕ, suc, _≤_, _<_}
+use Prim.Native.Nat.{ℕ, suc, _≤_}
 use native.Mathlib.Nat.{le-trans}
 use native.Mathlib.Omega.{arith}
 use Rattle.records.specs.declared.Entry.{Entry}
@@ -17,8 +17,8 @@ use Rattle.machine.proofs.Base.{upd, upd-same, upd-other, each-place, s
 use Rattle.machine.proofs.EntryLaws.{same-id, same-id-refl, listed-enter, recent-enter, old-enter, last-enter}
 use Rattle.machine.proofs.Columns.{Ops, isUnl, isL0, Columns, setBlocks, setEntries, setHands, setFinished, setNexts, setDifferences}
 use Rattle.machine.proofs.Ledger.{Ledger, upd2}
-use Rattle.machine.proofs.Invariant.{Ghost, Laws, code, Spot, at, Between, IdsOk, Live, Unwritten, Among, ListOk, NodeOk, PairOk, Own, HandOk, FinishedOk, writes, Inv}
-use Rattle.machine.proofs.Frame.{live-cases, norm-live, upd2-same, upd2-pos, upd2-at, upd2-other, upd2-ind, list-frame, Grown, node-frame, HandGrown, hand-frame, no-writer, phase-quiet, rebuild-quiet}
+use Rattle.machine.proofs.Invariant.{Ghost, Laws, code, Spot, at, Between, IdsOk, Live, Unwritten, Among, ListOk, NodeOk, HandOk, FinishedOk, writes, Inv}
+use Rattle.machine.proofs.Frame.{live-cases, norm-live, upd2-same, upd2-pos, upd2-at, upd2-other, upd2-ind, list-frame, Grown, node-frame, hand-frame, no-writer, phase-quiet, rebuild-quiet}
 
 module _ (O : Ops) where
   open Ops O using (B, k, n)

@@ -1,22 +1,22 @@
 -- The failure of a node keeps the invariant. Assumes nothing.
-use mathlib.Core.Path.{_≡_, refl, sym, ap, _∙_}
-use mathlib.Core.Logic.{_≢_, _⊎_, inl, inr}
-use mathlib.Core.Bool.{Bool, true, false}
-use mathlib.Core.List.{List, []}
+use mathlib.Core.Path.{_≡_, refl, sym, _∙_}
+use mathlib.Core.Logic.{_≢_, inl}
+use mathlib.Core.Bool.{true, false}
+use mathlib.Core.List.{[]}
 use mathlib.Core.Option.{some}
-use Prim.Native.Nat.{ℕ, _≤_, _<_}
+use Prim.Native.Nat.{ℕ}
 use native.Mathlib.Omega.{arith}
-use Rattle.code.specs.Decode.{NodeSet, has, noNodes}
+use Rattle.code.specs.Decode.{has, noNodes}
 use Rattle.records.specs.declared.Opmode.{Opmode}
 use Rattle.records.specs.declared.Opmode.the-variants.{Init}
 use Rattle.records.specs.Node.{isInit, isNorm, isRecons}
 use Rattle.records.specs.Client.{Write, Rebuild, NoRebuild, Locking, Picking, Writing, Settling, Unlocking}
 use Rattle.machine.proofs.Base.{upd, upd-same, upd-other, upd-ind, each-place, clash}
 use Rattle.machine.proofs.EntryLaws.{listed-nil, old-nil}
-use Rattle.machine.proofs.Columns.{Ops, Lock, Unl, isUnl, isL0, Columns, setBlocks, setOps, setLocks, setEpochs, setRsets, setEntries}
+use Rattle.machine.proofs.Columns.{Ops, Lock, Unl, Columns, setBlocks, setOps, setLocks, setEpochs, setRsets, setEntries}
 use Rattle.machine.proofs.Ledger.{Ledger, noteFail}
-use Rattle.machine.proofs.Invariant.{Ghost, Laws, IsNode, NodeOk, PairOk, HandOk, LockingOk, WritingOk, SettlingOk, UnlockingOk, PhaseOk, WriterOk, SettlerOk, RebuildOk, Inv, Good}
-use Rattle.machine.proofs.Frame.{recons-live, norm-live, Grown, node-frame, HandGrown, hand-frame}
+use Rattle.machine.proofs.Invariant.{Ghost, Laws, IsNode, NodeOk, PairOk, HandOk, PhaseOk, RebuildOk, Inv, Good}
+use Rattle.machine.proofs.Frame.{recons-live, norm-live, Grown, node-frame, hand-frame}
 use Rattle.machine.proofs.Sets.{no-nodes}
 
 module _ (O : Ops) where

@@ -7,7 +7,7 @@ use Prim.Native.Nat.{ℕ, zero, suc, _≤_, _<_}
 use native.Mathlib.Decide.{decLt}
 use native.Mathlib.Omega.{arith}
 use Rattle.code.specs.Decode.{has, excluding}
-use Rattle.records.specs.declared.Previous.the-variants.{Nothing, Id}
+use Rattle.records.specs.declared.Previous.the-variants.{Id}
 use Rattle.records.specs.Entries.{isRecentIn}
 use Rattle.records.specs.Node.{isNorm}
 use Rattle.records.specs.Client.{Write}
@@ -15,7 +15,7 @@ use Rattle.machine.specs.Writing.{withDone, forgetting, previousRecent}
 use Rattle.machine.proofs.Base.{upd, upd-ind, each-place, clash, is-true, some-same, not-some}
 use Rattle.machine.proofs.EntryLaws.{recent-listed}
 use Rattle.machine.proofs.Columns.{Ops, Columns, setHands}
-use Rattle.machine.proofs.Ledger.{Ledger, IsPos}
+use Rattle.machine.proofs.Ledger.{Ledger}
 use Rattle.machine.proofs.Invariant.{Ghost, Laws, Spot, Own, HandOk, Inv, Good}
 use Rattle.machine.proofs.Frame.{norm-live, of-live, counted}
 use Rattle.machine.proofs.Sets.{excluding-same, excluding-other}

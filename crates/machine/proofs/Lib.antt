@@ -11,9 +11,14 @@ pub mod Add
 pub mod Hands
 pub mod Sweep
 pub mod Fail
+pub mod Start
 pub mod Bytes
 pub mod View
 pub mod Kept
 pub mod Tables
 pub mod CodeLaws
+pub mod KeptStart
+pub mod KeptWriting
 pub mod Told
+pub mod Limits
+pub mod Examples

@@ -1,7 +1,7 @@
 -- Swap keeps the invariant. Assumes nothing.
 use mathlib.Core.Path.{_≡_, refl, sym, ap, ap₂, subst, _∙_}
 use mathlib.Core.Logic.{_≢_, _⊎_, inl, inr}
-use mathlib.Core.Bool.{Bool, true, false, _||_}
+use mathlib.Core.Bool.{true, false}
 use mathlib.Core.Option.{Option, some}
 use Prim.Native.Nat.{ℕ, suc, _≤_, _<_}
 use native.Mathlib.Nat.{le-trans}
@@ -9,13 +9,13 @@ use native.Mathlib.Omega.{arith}
 use Rattle.code.specs.Decode.{has, noNodes, including}
 use Rattle.records.specs.declared.WriteId.{WriteId}
 use Rattle.records.specs.declared.Previous.the-variants.{Id}
-use Rattle.records.specs.Entries.{isListed, isOldIn, isIn, lastRecent, enter}
+use Rattle.records.specs.Entries.{isOldIn, isIn, lastRecent, enter}
 use Rattle.records.specs.Node.{isInit, isNorm}
 use Rattle.records.specs.Client.{Write}
 use Rattle.machine.proofs.Base.{upd, upd-same, upd-other, upd-ind, each-place, clash, is-false, some-same, or-left}
 use Rattle.machine.proofs.EntryLaws.{old-listed}
 use Rattle.machine.proofs.Columns.{Ops, isUnl, isL0, Columns, setBlocks, setEntries, setHands, setNexts, setDifferences}
-use Rattle.machine.proofs.Ledger.{Ledger, Swapped, IsPos, noteSwap, upd2}
+use Rattle.machine.proofs.Ledger.{Ledger, IsPos, noteSwap, upd2}
 use Rattle.machine.proofs.Invariant.{Ghost, Laws, Spot, at, IdsOk, Unwritten, HandOk, FinishedOk, Inv, Good}
 use Rattle.machine.proofs.Frame.{norm-live, upd2-same, upd2-pos, upd2-ind, place-ind, code-data, of-live}
 use Rattle.machine.proofs.Sets.{no-nodes, including-other}

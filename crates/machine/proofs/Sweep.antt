@@ -1,5 +1,5 @@
 -- Sweep keeps the invariant: a node's list is made shorter or its finished ids are marked, and a client's finished list may be emptied. Assumes nothing.
-use mathlib.Core.Path.{_≡_, refl, sym, ap, _∙_}
+use mathlib.Core.Path.{_≡_, refl, sym, _∙_}
 use mathlib.Core.Logic.{_⊎_, inl, inr}
 use mathlib.Core.Bool.{true, false}
 use mathlib.Core.List.{List, []}
@@ -15,7 +15,7 @@ use Rattle.machine.proofs.Base.{upd, upd-ind, clash, is-false, bool-cas
 use Rattle.machine.proofs.EntryLaws.{in-nil, listed-mark, recent-mark, old-mark, last-mark, listed-discard, recent-discard, old-discard, last-discard}
 use Rattle.machine.proofs.Columns.{Ops, Columns, setEntries, setFinished}
 use Rattle.machine.proofs.Ledger.{Ledger}
-use Rattle.machine.proofs.Invariant.{Ghost, NodeOk, FinishedOk, Inv, Good}
+use Rattle.machine.proofs.Invariant.{Ghost, NodeOk, FinishedOk, Good}
 
 module _ (O : Ops) where
   open Ops O using (B)

@@ -4,3 +4,4 @@ pub mod Rebuild
 pub mod Calls
 pub mod History
 pub mod Guarantee
+pub mod Examples

@@ -2,15 +2,16 @@
 use mathlib.Core.Path.{refl}
 use Prim.Native.Nat.{_≤_, _-_}
 use native.Mathlib.Omega.{arith}
+use lib.Bits.{bitXor}
 use lib.ListN.{length}
 use borrow.Author.Needs.{needs}
-use Rattle.blocks.specs.Blocks.{difference}
+use Rattle.blocks.specs.Blocks.{zip}
 use Rattle.blocks.proofs.Fill.{Filled, filled-none, zip-turn, zip-all}
 use Rattle.blocks.proofs.add.Statement.{statement}
 use Rattle.blocks.proofs.add.Tie as tie
 
 abbrev Inv-loop : tie.InvT-loop
-Inv-loop dst₀ src i₀ dst i = (i ≤ length src) × Filled i (difference dst₀ src) dst₀ dst
+Inv-loop dst₀ src i₀ dst i = (i ≤ length src) × Filled i (zip bitXor dst₀ src) dst₀ dst
 
 abbrev μ-loop : tie.MeasureT-loop
 μ-loop dst₀ src i₀ dst i = length src - i

@@ -1,11 +1,11 @@
 -- `blocks::clear` meets its contract: after i turns dst has i zeros. Assumes nothing.
-use lib.ListN.{replicate, length-replicate, getD-replicate}
-use Rattle.blocks.proofs.Fill.{Filled, filled-none, filled-turn, filled-all}
 use mathlib.Core.Path.{sym}
 use Prim.Native.Nat.{_≤_, _-_}
 use native.Mathlib.Omega.{arith}
 use lib.ListN.{length}
+use lib.ListN.{replicate, length-replicate, getD-replicate}
 use borrow.Author.Needs.{needs}
+use Rattle.blocks.proofs.Fill.{Filled, filled-none, filled-turn, filled-all}
 use Rattle.blocks.proofs.clear.Statement.{statement}
 use Rattle.blocks.proofs.clear.Tie as tie
 

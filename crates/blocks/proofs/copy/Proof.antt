@@ -1,10 +1,10 @@
 -- `blocks::copy` meets its contract: after i turns dst has the first i bytes of src. Assumes nothing.
-use Rattle.blocks.proofs.Fill.{Filled, filled-none, filled-turn, filled-all}
 use mathlib.Core.Path.{refl}
 use Prim.Native.Nat.{_≤_, _-_}
 use native.Mathlib.Omega.{arith}
 use lib.ListN.{length}
 use borrow.Author.Needs.{needs}
+use Rattle.blocks.proofs.Fill.{Filled, filled-none, filled-turn, filled-all}
 use Rattle.blocks.proofs.copy.Statement.{statement}
 use Rattle.blocks.proofs.copy.Tie as tie
 

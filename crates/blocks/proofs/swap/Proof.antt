@@ -1,20 +1,20 @@
--- `blocks::swap` meets its contract: after i turns block has the first i bytes of the value, and change those of the difference. Assumes nothing.
-use Rattle.blocks.proofs.Fill.{Filled, filled-none, filled-turn, filled-rest, filled-all, zip-length, zip-at}
-use Rattle.blocks.specs.Blocks.{difference}
+-- `blocks::swap` meets its contract: after i turns block has the first i bytes of the value, and difference those of the difference. Assumes nothing.
 use mathlib.Core.Path.{refl, sym, ap, _∙_}
 use Prim.Native.Nat.{_≤_, _-_}
 use native.Mathlib.Omega.{arith}
 use lib.Bits.{bitXor}
 use lib.ListN.{length, getD}
 use borrow.Author.Needs.{needs}
+use Rattle.blocks.specs.Blocks as Blocks
+use Rattle.blocks.proofs.Fill.{Filled, filled-none, filled-turn, filled-rest, filled-all, zip-length, zip-at}
 use Rattle.blocks.proofs.swap.Statement.{statement}
 use Rattle.blocks.proofs.swap.Tie as tie
 
 abbrev Inv-loop : tie.InvT-loop
-Inv-loop block₀ change₀ value i₀ block change i = (i ≤ length value) × Filled i value block₀ block × Filled i (difference value block₀) change₀ change
+Inv-loop block₀ difference₀ value i₀ block difference i = (i ≤ length value) × Filled i value block₀ block × Filled i (Blocks.difference value block₀) difference₀ difference
 
 abbrev μ-loop : tie.MeasureT-loop
-μ-loop block₀ change₀ value i₀ block change i = length value - i
+μ-loop block₀ difference₀ value i₀ block difference i = length value - i
 
 loop-holds : tie.Need-loop-holds Inv-loop μ-loop
 loop-holds c = (search needs, filled-none _ _, filled-none _ _)
