@@ -25,7 +25,7 @@ use Rattle.records.specs.Node.{Node, failedNode, withLmode, expiredFor, lockedB
 use Rattle.records.specs.Node as Node
 use Rattle.records.specs.Client as Records
 use Rattle.records.specs.Client.{Rebuild, NoRebuild, Locking, Picking, Writing, Settling, Unlocking, hasRebuild, withRebuild, unlOrExp, rebuildWithin, clientWithin}
-use Rattle.machine.specs.Stripe.{Stripe, Answer, Accepted, Rebuilt, Refused, number, Outcome, Whole, answered, refused, guard, nodeAt, clientAt, setAt, whole, blocksFit, nodesFit, everyOf}
+use Rattle.machine.specs.Stripe.{Stripe, Answer, Accepted, Rebuilt, Refused, number, Outcome, Whole, answered, refused, guard, nodeAt, clientAt, setAt, whole, nodesFit, everyOf}
 use Rattle.machine.specs.Calls.{Call, step}
 use Rattle.machine.specs.Calls as Calls
 use Rattle.machine.specs.Rebuild as Rebuild
