@@ -165,8 +165,24 @@ module _ (O : Ops) where
         at-cut j (inr t) = I .pair (t .1 .0) j .member (t .1 .1) (t .0)
 
   ---- the pick
-  module _ (L : Laws O) {G : Ghost} {h : Ledger B} {s : Columns B} (I : Inv O G h s) (c : ℕ) (w : NodeSet) (e : Epoch) (A : Agrees G h s w) (many : k ≤ size w)
-      (m : ℕ) (in-w : has w m ≡ true) (held : (j : ℕ) → IsNode O j → s .lock j ≡ L1 c) (top : (j : ℕ) → IsNode O j → s .epoch j ≤ e .0) where
+  module _ (L : Laws O) (h : Ledger B) (s : Columns B) (g : Good O h s) (c : ℕ) (w : NodeSet) (e : Epoch) (candidate : Candidate s w) (many : k ≤ size w)
+      (held : (j : ℕ) → IsNode O j → s .lock j ≡ L1 c) (top : (j : ℕ) → IsNode O j → s .epoch j ≤ e .0) where
+    abbrev G : Ghost
+    G = g .ghost
+
+    abbrev I : Inv O G h s
+    I = g .inv
+
+    -- a member
+    abbrev m : ℕ
+    m = lowest w 1
+
+    in-w : has w m ≡ true
+    in-w = lowest-has w 1 (omega arith) (omega (arith, L .k-two))
+
+    A : Agrees G h s w
+    A = candidate-agrees I m in-w candidate
+
     abbrev G' : Ghost
     G' = record { idOf = G .idOf; base = G .base; inBlock = G .inBlock; inList = G .inList; cut = A .cut; isSettled = G .isSettled; begun = G .begun }
 
@@ -179,7 +195,7 @@ module _ (O : Ops) where
     node-m : IsNode O m
     node-m = of-live O (live-member m in-w)
 
-    -- another who wrote would hold the member m
+    -- another who wrote would hold m
     quiet : (d : ℕ) → c ≢ d → writes (s .phase d) ≡ false
     quiet d ne = is-false (writes (s .phase d)) (λ t. absurd (ne (same-l1 (sym (held m node-m) ∙ theirs t))))
       where
@@ -204,30 +220,23 @@ module _ (O : Ops) where
           count = upd-same (h .settles) c (some 0);
         }
 
-    picked-inv : Inv O G' h' (picked c w e s)
-    picked-inv =
+    pub picked-good : Good O h' (picked c w e s)
+    picked-good =
         record {
-          ids = ids-step O G' h' (I .ids);
-          node = λ j. node-step O G' h' L (λ t. t)
-              (record { inBlock = λ i. refl; inList = λ i. refl; isSettled = refl; cut = A .same j; begun = λ t. t }) (I .node j);
-          pair = λ j l. let v = I .pair j l in
-              record { together = v .together; only = v .only; member = λ q t i sp. v .member q t i sp ∙ sym (A .same j (inl (v .only q)) i) };
-          hand = λ d u q. hand-step O G' h' (s .op) (λ j a b. (a, b, λ i. refl)) (I .hand d u q);
-          finished = λ d. finished-step O G' h' (I .finished d);
-          unl = I .unl;
-          weak = I .weak;
-          phase = upd-ind (λ d q. (j : ℕ) → IsNode O j → PhaseOk O G' d q j (s .op j) (s .lock j) (s .epoch j)) (s .phase) c (Writing 1 w e) writing
-              (λ d ne j b. phase-quiet O G G' refl d j (s .phase d) (s .op j) (s .lock j) (s .epoch j) (quiet d ne) (I .phase d j b));
-          rebuild = rebuild-only O (s .phase) c (Writing 1 w e) quiet G' h' (decode w (s .block)) writer;
-          one = one-writer O (s .phase) c (Writing 1 w e) quiet;
+          ghost = G';
+          inv = record {
+            ids = ids-step O G' h' (I .ids);
+            node = λ j. node-step O G' h' L (λ t. t)
+                (record { inBlock = λ i. refl; inList = λ i. refl; isSettled = refl; cut = A .same j; begun = λ t. t }) (I .node j);
+            pair = λ j l. let v = I .pair j l in
+                record { together = v .together; only = v .only; member = λ q t i sp. v .member q t i sp ∙ sym (A .same j (inl (v .only q)) i) };
+            hand = λ d u q. hand-step O G' h' (s .op) (λ j a b. (a, b, λ i. refl)) (I .hand d u q);
+            finished = λ d. finished-step O G' h' (I .finished d);
+            unl = I .unl;
+            weak = I .weak;
+            phase = upd-ind (λ d q. (j : ℕ) → IsNode O j → PhaseOk O G' d q j (s .op j) (s .lock j) (s .epoch j)) (s .phase) c (Writing 1 w e) writing
+                (λ d ne j b. phase-quiet O G G' refl d j (s .phase d) (s .op j) (s .lock j) (s .epoch j) (quiet d ne) (I .phase d j b));
+            rebuild = rebuild-only O (s .phase) c (Writing 1 w e) quiet G' h' (decode w (s .block)) writer;
+            one = one-writer O (s .phase) c (Writing 1 w e) quiet;
+          };
         }
-
-  pub picked-good : Laws O → (h : Ledger B) (s : Columns B) → Good O h s → (c : ℕ) (w : NodeSet) (e : Epoch) → Candidate s w → k ≤ size w →
-      ((j : ℕ) → IsNode O j → s .lock j ≡ L1 c) → ((j : ℕ) → IsNode O j → s .epoch j ≤ e .0) → Good O (noteCount h c 0) (picked c w e s)
-  picked-good L h s g c w e candidate many held top = record { ghost = _; inv = picked-inv L (g .inv) c w e (candidate-agrees (g .inv) m in-w candidate) many m in-w held top }
-    where
-      m : ℕ
-      m = lowest w 1
-
-      in-w : has w m ≡ true
-      in-w = lowest-has w 1 (omega arith) (omega (arith, L .k-two))

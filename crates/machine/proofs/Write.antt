@@ -16,8 +16,8 @@ use Rattle.records.specs.Client.{Write, Rebuild, Writing, Settling}
 use Rattle.machine.proofs.Base.{upd, upd-same, upd-other, upd-ind, each-place, clash, cond-ind}
 use Rattle.machine.proofs.Columns.{Ops, L1, isUnl, isL0, heldBy, Columns, setBlocks, setOps, setEpochs, setRsets, setPhases}
 use Rattle.machine.proofs.Ledger.{Ledger}
-use Rattle.machine.proofs.Invariant.{Ghost, Laws, code, IsNode, Spot, at, Between, NodeOk, PairOk, HandOk, WritingOk, PhaseOk, WriterOk, RebuildOk, Inv, Good}
-use Rattle.machine.proofs.Frame.{of-live, norm-live}
+use Rattle.machine.proofs.Invariant.{Ghost, Laws, code, IsNode, Spot, at, Between, NodeOk, PairOk, HandOk, writes, WritingOk, PhaseOk, WriterOk, RebuildOk, Inv, Good}
+use Rattle.machine.proofs.Frame.{of-live, norm-live, list-frame}
 use Rattle.machine.proofs.Phases.{phase-is, rebuild-is, others-quiet, writer-lock, phase-after, rebuild-only, one-writer}
 use Rattle.machine.proofs.Progress.{ids-step, finished-step, node-step, hand-step}
 
@@ -33,10 +33,26 @@ module _ (O : Ops) where
       setBlocks (upd (s .block) x (s .spare x))
       (setOps (upd (s .op) x Recons) (setEpochs (upd (s .epoch) x (e .0)) (setRsets (upd (s .rset) x w) (setPhases (upd (s .phase) c (writePhase x w e)) s))))
 
-  module _ (L : Laws O) {G : Ghost} {h : Ledger B} {s : Columns B} (I : Inv O G h s) (c x : ℕ) (w : NodeSet) (e : Epoch) (p : s .phase c ≡ Writing x w e)
+  module _ (L : Laws O) (h : Ledger B) (s : Columns B) (g : Good O h s) (c x : ℕ) (w : NodeSet) (e : Epoch) (p : s .phase c ≡ Writing x w e)
       (held : heldBy c (s .lock x) ≡ true) where
+    abbrev G : Ghost
+    G = g .ghost
+
+    abbrev I : Inv O G h s
+    I = g .inv
+
+    -- node x stands at the cut, and is not settled
     abbrev G' : Ghost
-    G' = record { idOf = G .idOf; base = G .base; inBlock = upd (G .inBlock) x (G .cut); inList = G .inList; cut = G .cut; isSettled = upd (G .isSettled) x false; begun = true }
+    G' =
+        record {
+          idOf = G .idOf;
+          base = G .base;
+          inBlock = upd (G .inBlock) x (G .cut);
+          inList = G .inList;
+          cut = G .cut;
+          isSettled = upd (G .isSettled) x false;
+          begun = true;
+        }
 
     abbrev op' : ℕ → Opmode
     op' = upd (s .op) x Recons
@@ -76,8 +92,7 @@ module _ (O : Ops) where
           unwritten = λ t. clash t refl;
           written = λ t. record { under-way = refl; between = writer .between; cut = λ i sp. ap (λ (f : ℕ → ℕ). f i) at-x };
           settled = λ t. clash t (upd-same (G .isSettled) x false);
-          list = let v = I .node x .list in
-              record { short = v .short; listed = λ y t. let a = v .listed y t in record { l = a .l; low = a .low; high = a .high; is = a .is }; mine = v .mine; undone = v .undone; old = v .old };
+          list = list-frame O G G' h h x (s .entries x) (λ i. refl) (λ i l b. refl) (λ i. omega arith) (λ i l t. t) (λ i l a b. inl b) (I .node x .list);
           init = λ t. clash t refl;
           bare = λ t. bare t;
         }
@@ -92,25 +107,34 @@ module _ (O : Ops) where
         (rw (upd-same (s .block) x (s .spare x), upd-same (s .op) x Recons, upd-same (s .epoch) x (e .0)) itself)
         (λ j ne. rw (upd-other (s .block) x (s .spare x) j ne, upd-other (s .op) x Recons j ne, upd-other (s .epoch) x (e .0) j ne)
         (node-step O G' h L (λ t. t)
-        (record { inBlock = inBlock-other j ne; inList = λ i. refl; isSettled = upd-other (G .isSettled) x false j ne; cut = λ r i. refl; begun = λ t. refl }) (I .node j)))
+        (record {
+          inBlock = inBlock-other j ne;
+          inList = λ i. refl;
+          isSettled = upd-other (G .isSettled) x false j ne;
+          cut = λ r i. refl;
+          begun = λ t. refl;
+        }) (I .node j)))
 
     -- a node that is NORM is not x, and was NORM
     norm-other : (j : ℕ) → isNorm (op' j) ≡ true → (x ≢ j) × (isNorm (s .op j) ≡ true)
     norm-other = upd-ind (λ j o. isNorm o ≡ true → (x ≢ j) × (isNorm (s .op j) ≡ true)) (s .op) x Recons (λ t. clash t refl) (λ j ne t. (ne, t))
 
-    -- a node that stood at the cut if it was live does so if it is: x now does
-    at-cut : (l : ℕ) → (isInit (s .op l) ≡ false → (i : ℕ) → Spot O l i → G .inBlock l i ≡ G .cut i) → isInit (op' l) ≡ false → (i : ℕ) → Spot O l i → G' .inBlock l i ≡ G .cut i
+    -- node l stands at the cut; if it did where it was live before, it does where it is now, since x does
+    abbrev AtCut : ℕ → (ℕ → ℕ) → Type 0
+    AtCut l a = (i : ℕ) → Spot O l i → a i ≡ G .cut i
+
+    at-cut : (l : ℕ) → (isInit (s .op l) ≡ false → AtCut l (G .inBlock l)) → isInit (op' l) ≡ false → AtCut l (G' .inBlock l)
     at-cut =
-        upd-ind (λ l (f : ℕ → ℕ). (isInit (s .op l) ≡ false → (i : ℕ) → Spot O l i → G .inBlock l i ≡ G .cut i) → isInit (op' l) ≡ false → (i : ℕ) → Spot O l i → f i ≡ G .cut i) (G .inBlock) x (G .cut)
-        (λ was t i sp. refl) (λ l ne was t. was (ap isInit (sym (upd-other (s .op) x Recons l ne)) ∙ t))
+        upd-ind (λ l a. (isInit (s .op l) ≡ false → AtCut l (G .inBlock l)) → isInit (op' l) ≡ false → AtCut l a) (G .inBlock) x (G .cut)
+        (λ was t i sp. refl) (λ l ne was t. was (rw (upd-other (s .op) x Recons l ne) at t))
 
     pair : (j l : ℕ) → PairOk O G' op' (upd (s .rset) x w) j l
     pair j l =
         record {
-          together = λ a b. let q = norm-other l b in upd-other (G .isSettled) x false l (q .0) ∙ I .pair j l .together (was-settled j a) (q .1);
-          only = upd-ind (λ j u. has u l ≡ true → isRecons (op' j) ≡ true) (s .rset) x w (λ t. ap isRecons (upd-same (s .op) x Recons))
-              (λ j ne t. ap isRecons (upd-other (s .op) x Recons j ne) ∙ I .pair j l .only t) j;
-          member = λ t. at-cut l (upd-ind (λ j u. has u l ≡ true → isInit (s .op l) ≡ false → (i : ℕ) → Spot O l i → G .inBlock l i ≡ G .cut i) (s .rset) x w
+          together = λ a b. let (ne, norm) = norm-other l b in upd-other (G .isSettled) x false l ne ∙ I .pair j l .together (was-settled j a) norm;
+          only = upd-ind (λ j u. has u l ≡ true → isRecons (op' j) ≡ true) (s .rset) x w (λ t. rw (upd-same (s .op) x Recons))
+              (λ j ne t. rw (upd-other (s .op) x Recons j ne) (I .pair j l .only t)) j;
+          member = λ t. at-cut l (upd-ind (λ j u. has u l ≡ true → isInit (s .op l) ≡ false → AtCut l (G .inBlock l)) (s .rset) x w
               (λ t i. writing l (of-live O (I .node l .live i)) .member t i) (λ j ne. I .pair j l .member) j t);
         }
       where
@@ -119,7 +143,7 @@ module _ (O : Ops) where
 
     hand : (d : ℕ) (u : Write) → s .hand d ≡ some u → HandOk O G' h op' d (s .difference d) u
     hand d u q =
-        hand-step O G' h op' (λ j a b. let r = norm-other j a in (r .1, sym (upd-other (G .isSettled) x false j (r .0)) ∙ b, inBlock-other j (r .0))) (I .hand d u q)
+        hand-step O G' h op' (λ j a b. let (ne, norm) = norm-other j a in (norm, sym (upd-other (G .isSettled) x false j ne) ∙ b, inBlock-other j ne)) (I .hand d u q)
 
     ---- the phases
     behind : (j : ℕ) → IsNode O j → heldBy c (s .lock j) ≡ true → 1 ≤ j → j < suc x → isRecons (op' j) ≡ true
@@ -140,26 +164,34 @@ module _ (O : Ops) where
     rebuild : RebuildOk O G' h (s .spare) c (writePhase x w e)
     rebuild =
         cond-ind (λ q. RebuildOk O G' h (s .spare) c q) (leb n x) (Settling 1 e) (Writing (suc x) w e)
-        (λ t. record { epoch = writer .epoch; low = omega arith; high = omega (arith, writer .low, writer .high); count = λ y q. writer .count ∙ ap some (first y q) })
+        (λ t. record {
+          epoch = writer .epoch;
+          low = omega arith;
+          high = omega (arith, writer .low, writer .high);
+          count = λ y q. writer .count ∙ ap some (first y q);
+        })
         (λ t. record { epoch = writer .epoch; between = writer .between; low = omega arith; high = leb-false n x t; spare = writer .spare; count = writer .count })
       where
         first : (y : ℕ) → 1 ≡ suc y → 0 ≡ y
         first y q = omega arith
 
-    written-inv : Inv O G' h (written c x w e s)
-    written-inv =
+    pub written-good : Good O h (written c x w e s)
+    written-good =
         record {
-          ids = ids-step O G' h (I .ids);
-          node = node;
-          pair = pair;
-          hand = hand;
-          finished = λ d. finished-step O G' h (I .finished d);
-          unl = λ t j i. ap isUnl (l1 j i);
-          weak = λ j l r i. ap isL0 (l1 l i);
-          phase = phase-after O I c p refl G' op' (upd (s .epoch) x (e .0)) (writePhase x w e) live' l1 mine;
-          rebuild = rebuild-only O (s .phase) c (writePhase x w e) (others-quiet O I c p refl) G' h (s .spare) rebuild;
-          one = one-writer O (s .phase) c (writePhase x w e) (others-quiet O I c p refl);
+          ghost = G';
+          inv = record {
+            ids = ids-step O G' h (I .ids);
+            node = node;
+            pair = pair;
+            hand = hand;
+            finished = λ d. finished-step O G' h (I .finished d);
+            unl = λ t j i. rw (l1 j i);
+            weak = λ j l r i. rw (l1 l i);
+            phase = phase-after O I c p refl G' op' (upd (s .epoch) x (e .0)) (writePhase x w e) live' l1 mine;
+            rebuild = rebuild-only O (s .phase) c (writePhase x w e) quiet G' h (s .spare) rebuild;
+            one = one-writer O (s .phase) c (writePhase x w e) quiet;
+          };
         }
-
-  pub written-good : Laws O → (h : Ledger B) (s : Columns B) → Good O h s → (c x : ℕ) (w : NodeSet) (e : Epoch) → s .phase c ≡ Writing x w e → heldBy c (s .lock x) ≡ true → Good O h (written c x w e s)
-  written-good L h s g c x w e p held = record { ghost = _; inv = written-inv L (g .inv) c x w e p held }
+      where
+        quiet : (d : ℕ) → c ≢ d → writes (s .phase d) ≡ false
+        quiet = others-quiet O I c p refl
