@@ -37,7 +37,8 @@ module _ (nodes : List Node) (x : WriteId) where
   into-f [] r o = clash r refl
   into-f (e ∷ es) r o = go (or-one (isRecent e && sameId (e .id) x) (isRecentIn x es) r) (λ t. into-f es t o)
     where
-      go : ((isRecent e && sameId (e .id) x) ≡ true) ⊎ (isRecentIn x es ≡ true) → (isRecentIn x es ≡ true → isIn x (recentIds nodes es) ≡ true) → isIn x (recentIds nodes (e ∷ es)) ≡ true
+      go : ((isRecent e && sameId (e .id) x) ≡ true) ⊎ (isRecentIn x es ≡ true) → (isRecentIn x es ≡ true → isIn x (recentIds nodes es) ≡ true) →
+          isIn x (recentIds nodes (e ∷ es)) ≡ true
       go (inl t) later =
           let q = and-both (isRecent e) (sameId (e .id) x) t in
           rw (q .0, same-id (e .id) x (q .1), o) (or-left (sameId x x) (isIn x (recentIds nodes es)) (same-id-refl x))
@@ -49,11 +50,12 @@ module _ (nodes : List Node) (x : WriteId) where
   unfolding isRecentIn recentIds isIn
   from-f [] = λ t. t
   from-f (e ∷ es) =
-      cond-ind (λ ids. isIn x ids ≡ true → isRecentIn x (e ∷ es) ≡ true) (isRecent e && not (oldSomewhere nodes (e .id))) (e .id ∷ recentIds nodes es) (recentIds nodes es)
+      cond-ind (λ ids. isIn x ids ≡ true → isRecentIn x (e ∷ es) ≡ true) (isRecent e && not (oldSomewhere nodes (e .id))) _ _
       (λ q t. go (and-both (isRecent e) (not (oldSomewhere nodes (e .id))) q .0) (from-f es) (or-one (sameId (e .id) x) (isIn x (recentIds nodes es)) t))
       (λ q t. or-right (isRecent e && sameId (e .id) x) (isRecentIn x es) (from-f es t))
     where
-      go : isRecent e ≡ true → (isIn x (recentIds nodes es) ≡ true → isRecentIn x es ≡ true) → (sameId (e .id) x ≡ true) ⊎ (isIn x (recentIds nodes es) ≡ true) → isRecentIn x (e ∷ es) ≡ true
+      go : isRecent e ≡ true → (isIn x (recentIds nodes es) ≡ true → isRecentIn x es ≡ true) → (sameId (e .id) x ≡ true) ⊎ (isIn x (recentIds nodes es) ≡ true) →
+          isRecentIn x (e ∷ es) ≡ true
       go r later (inl t) = or-left (isRecent e && sameId (e .id) x) (isRecentIn x es) (rw (r, t))
       go r later (inr t) = or-right (isRecent e && sameId (e .id) x) (isRecentIn x es) (later t)
 
@@ -62,7 +64,8 @@ module _ (z : Sizes) (s : Stripe) where
   C = columns z s
 
   f-within : (a b : ℕ) → ((x : WriteId) → isIn x (f (s .nodes) a) ≡ true → isIn x (f (s .nodes) b) ≡ true) → FWithin (ops z) C a b
-  f-within a b within x recent none = from-f (s .nodes) x (C .entries b) (within x (into-f (s .nodes) x (C .entries a) recent (is-false (oldSomewhere (s .nodes) x) old)))
+  f-within a b within x recent none =
+      from-f (s .nodes) x (C .entries b) (within x (into-f (s .nodes) x (C .entries a) recent (is-false (oldSomewhere (s .nodes) x) old)))
     where
       old : oldSomewhere (s .nodes) x ≡ true → oldSomewhere (s .nodes) x ≡ false
       old e =
@@ -100,4 +103,5 @@ module _ (z : Sizes) (s : Stripe) where
   picked-candidate fit n18 =
       cond-ind (Candidate (ops z) C) (someRecons (s .nodes)) (Rebuild.resumed (s .nodes)) (largest z (s .nodes) (z .n - z .k)) resumed-is
       (λ none. let K = the-largest z (s .nodes) fit n18 .consistent in
-      anew (none-at failedNode (λ x. isRecons (x .opmode)) refl (s .nodes) none) (K .norm) (consistent (largest z (s .nodes) (z .n - z .k)) K (place z (largest z (s .nodes) (z .n - z .k)))))
+      anew (none-at failedNode (λ x. isRecons (x .opmode)) refl (s .nodes) none) (K .norm)
+      (consistent (largest z (s .nodes) (z .n - z .k)) K (place z (largest z (s .nodes) (z .n - z .k)))))

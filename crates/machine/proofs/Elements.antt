@@ -72,7 +72,8 @@ module _ {E : Type 0} (d : E) where
     after (suc k) (x ∷ l) zero a b = absurd (omega arith)
     after (suc k) (x ∷ l) (suc j) a b = after k l j (omega arith) (omega arith)
 
-    pub from-at : (k n : ℕ) (l : List E) → length l ≡ n → (j : ℕ) → elementAt d (mapFrom k l) j ≡ cond (ltb k j && leb j n) (f (elementAt d l j)) (elementAt d l j)
+    pub from-at : (k n : ℕ) (l : List E) → length l ≡ n → (j : ℕ) →
+        elementAt d (mapFrom k l) j ≡ cond (ltb k j && leb j n) (f (elementAt d l j)) (elementAt d l j)
     unfolding elementAt
     from-at k n l e zero = rw (le-ltb k 0 (omega arith))
     from-at k n l e (suc j) = go (ltb k (suc j)) (leb (suc j) n) refl refl
@@ -80,7 +81,9 @@ module _ {E : Type 0} (d : E) where
         go : (s t : Bool) → ltb k (suc j) ≡ s → leb (suc j) n ≡ t → getD (mapFrom k l) j d ≡ cond (s && t) (f (getD l j d)) (getD l j d)
         go false t p q = before k l j (ltb-false k (suc j) p)
         go true true p q = let a = ltb-true k (suc j) p in let b = leb-true (suc j) n q in after k l j (omega arith) (omega arith)
-        go true false p q = let b = leb-false (suc j) n q in List·getD-eq-default (mapFrom k l) d (rw (length-from k l) (omega arith)) ∙ sym (List·getD-eq-default l d (omega arith))
+        go true false p q =
+            let b = leb-false (suc j) n q in
+            List·getD-eq-default (mapFrom k l) d (rw (length-from k l) (omega arith)) ∙ sym (List·getD-eq-default l d (omega arith))
 
 ---- the lmodes given back
 module _ (c : ℕ) where
@@ -90,7 +93,8 @@ module _ (c : ℕ) where
   length-restored (l ∷ old) [] = refl
   length-restored (l ∷ old) (x ∷ nodes) = ap suc (length-restored old nodes)
 
-  pub restored-first : (old : List Lmode) (nodes : List Node) (j : ℕ) → j < length old → getD (restored c old nodes) j failedNode ≡ givenBack c (getD old j Lmode.Unl) (getD nodes j failedNode)
+  pub restored-first : (old : List Lmode) (nodes : List Node) (j : ℕ) → j < length old →
+      getD (restored c old nodes) j failedNode ≡ givenBack c (getD old j Lmode.Unl) (getD nodes j failedNode)
   unfolding restored
   restored-first [] nodes j h = absurd (omega arith)
   restored-first (l ∷ old) [] j h = refl

@@ -26,13 +26,13 @@ use Rattle.records.specs.Node as Node
 use Rattle.records.specs.Client as Records
 use Rattle.records.specs.Client.{Rebuild, NoRebuild, Locking, Picking, Writing, Settling, Unlocking, hasRebuild, withRebuild, unlOrExp, rebuildWithin, clientWithin}
 use Rattle.machine.specs.Stripe.{Stripe, Answer, Accepted, Rebuilt, Refused, number, Outcome, Whole, answered, refused, guard, nodeAt, clientAt, setAt, whole, nodesFit, everyOf}
-use Rattle.machine.specs.Calls.{Call, step}
+use Rattle.machine.specs.Calls.{Call, Stop, Pick, Weaken, Tighten, Write, Settle, Unlock, Quit, step}
 use Rattle.machine.specs.Calls as Calls
 use Rattle.machine.specs.Rebuild as Rebuild
 use Rattle.machine.specs.Rebuild.{advanced, holding, outOfLimits, restored, someRecons, pickedSet, countInit, neededSize, largestEpoch}
 use Rattle.machine.specs.Writing.{stop}
 use Rattle.machine.proofs.Base.{upd, clash, or-one, or-none, cond-ind}
-use Rattle.machine.proofs.Columns.{Columns, Lock, L0, heldBy, setBlocks, setLocks, setPhases}
+use Rattle.machine.proofs.Columns.{Ops, Columns, Lock, L0, heldBy, setBlocks, setLocks, setPhases}
 use Rattle.machine.proofs.Ledger as Ledger
 use Rattle.machine.proofs.Ledger.{Ledger, note}
 use Rattle.machine.proofs.Invariant.{Laws, IsNode, Good}
@@ -49,8 +49,17 @@ use Rattle.machine.proofs.Write.{writePhase, written, written-good}
 use Rattle.machine.proofs.Settle.{settlePhase, settled, settled-good, settled-rebuilt}
 
 module _ (z : Sizes) (L : Laws (ops z)) (h : Ledger Block) (s : Stripe) (g : Good (ops z) h (columns z s)) (f : Fits z s) (c : ℕ) where
+  abbrev O : Ops
+  O = ops z
+
   abbrev C : Columns Block
   C = columns z s
+
+  abbrev N : List Node
+  N = s .nodes
+
+  abbrev at : ℕ → Node
+  at j = nodeAt N j
 
   abbrev w : Whole
   w = whole c s
@@ -85,11 +94,12 @@ module _ (z : Sizes) (L : Laws (ops z)) (h : Ledger Block) (s : Stripe) (g : Goo
         tested test OutOfLimits (guard (not (isClient z c)) OutOfRange w (rest (C .phase c)))
         (λ r1. tested (not (isClient z c)) OutOfRange (rest (C .phase c))
         (λ r2.
-        let fit : (sizesWithin z && (nodesFit z (s .nodes) && clientWithin z client)) ≡ true = not-false _ (limits r1) in
+        let fit : (sizesWithin z && (nodesFit z N && clientWithin z client)) ≡ true = not-false _ (limits r1) in
         let number : isClient z c ≡ true = not-false _ r2 in
-        k (C .phase c) (record { phase = refl; low = search (and-left, leb-true); high = search (and-right, leb-true); within = search (and-left, and-right) })))
+        k (C .phase c)
+        (record { phase = refl; low = search (and-left, leb-true); high = search (and-right, leb-true); within = search (and-left, and-right) })))
 
-  node : (j : ℕ) → isNode z j ≡ true → IsNode (ops z) j
+  node : (j : ℕ) → isNode z j ≡ true → IsNode O j
   node j e = record { low = search (and-left, leb-true); high = search (and-right, leb-true) }
 
   ---- what a call leaves
@@ -108,7 +118,8 @@ module _ (z : Sizes) (L : Laws (ops z)) (h : Ledger Block) (s : Stripe) (g : Goo
   other-nodes e = record { nodes = e; blocks = f .blocks; spare = f .spare; blocks-bytes = f .blocks-bytes; spare-bytes = f .spare-bytes }
 
   -- other locks
-  relock-columns : (nodes' : List Node) (lock' : ℕ → Lock) → ((j : ℕ) → LockedAs (nodeAt (s .nodes) j) (lock' j) (nodeAt nodes' j)) → columns z (withNodes s nodes') ≡ setLocks lock' C
+  relock-columns : (nodes' : List Node) (lock' : ℕ → Lock) → ((j : ℕ) → LockedAs (at j) (lock' j) (nodeAt nodes' j)) →
+      columns z (withNodes s nodes') ≡ setLocks lock' C
   relock-columns nodes' lock' each =
       λ i. record {
         block = C .block;
@@ -127,11 +138,12 @@ module _ (z : Sizes) (L : Laws (ops z)) (h : Ledger Block) (s : Stripe) (g : Goo
 
   module _ {p : Rebuild} (i : In p) (x : Call) (a : Answer) where
     abbrev GoodAfter : Columns Block → Type 0
-    GoodAfter C' = Good (ops z) (note (ops z) h (entry z x a) (C' .block)) C'
+    GoodAfter C' = Good O (note O h (entry z x a) (C' .block)) C'
 
     -- c's record becomes y
     put-kept : (nodes' : List Node) (blocks' spare' : List ℕ) (y : Records.Client) → Shapes nodes' blocks' spare' → (C' : Columns Block) →
-        withClient (columns z (with nodes' blocks' spare')) c y ≡ C' → GoodAfter C' → After x (answered a (record { nodes = nodes'; client = y; blocks = blocks'; spare = spare' }))
+        withClient (columns z (with nodes' blocks' spare')) c y ≡ C' → GoodAfter C' →
+        After x (answered a (record { nodes = nodes'; client = y; blocks = blocks'; spare = spare' }))
     put-kept nodes' blocks' spare' y t C' same good =
         record {
           good = subst GoodAfter (sym (put-client z (with nodes' blocks' spare') c y (i .low) (rw (f .clients) (i .high)) ∙ same)) good;
@@ -155,59 +167,61 @@ module _ (z : Sizes) (L : Laws (ops z)) (h : Ledger Block) (s : Stripe) (g : Goo
         put-kept nodes' blocks' spare' (withRebuild q client) t C' (rw (upd-keep (C .hand) c, upd-keep (C .finished) c, upd-keep (C .next) c) same)
 
     -- and node j's record becomes y
-    set-kept : (j : ℕ) (y : Node) (blocks' : List ℕ) (q : Rebuild) → IsNode (ops z) j → length blocks' ≡ z .n * z .b → Bytes blocks' → (C' : Columns Block) →
+    set-kept : (j : ℕ) (y : Node) (blocks' : List ℕ) (q : Rebuild) → IsNode O j → length blocks' ≡ z .n * z .b → Bytes blocks' → (C' : Columns Block) →
         setPhases (upd (C .phase) c q) (withNode (setBlocks (blockOf (z .b) blocks') C) j y) ≡ C' → GoodAfter C' →
-        After x (answered a (record { nodes = setAt (s .nodes) j y; client = withRebuild q client; blocks = blocks'; spare = s .spare }))
+        After x (answered a (record { nodes = setAt N j y; client = withRebuild q client; blocks = blocks'; spare = s .spare }))
     set-kept j y blocks' q b size bytes C' same =
-        phase-kept (setAt (s .nodes) j y) blocks' (s .spare) q
-        (record { nodes = setAt-length (s .nodes) j y ∙ f .nodes; blocks = size; spare = f .spare; blocks-bytes = bytes; spare-bytes = f .spare-bytes }) C'
-        (ap (setPhases (upd (C .phase) c q)) (put-node z (with (s .nodes) blocks' (s .spare)) j y (b .low) (rw (f .nodes) (b .high))) ∙ same)
+        phase-kept (setAt N j y) blocks' (s .spare) q
+        (record { nodes = setAt-length N j y ∙ f .nodes; blocks = size; spare = f .spare; blocks-bytes = bytes; spare-bytes = f .spare-bytes }) C'
+        (ap (setPhases (upd (C .phase) c q)) (put-node z (with N blocks' (s .spare)) j y (b .low) (rw (f .nodes) (b .high))) ∙ same)
 
     -- of node j the lock alone
-    lock-set-kept : (j : ℕ) (l : Lmode) (o : Holder) (q : Rebuild) → IsNode (ops z) j → GoodAfter (relocked c (upd (C .lock) j (lockOf l o)) q C) →
-        After x (answered a (advanced (setAt (s .nodes) j (withLmode (nodeAt (s .nodes) j) l o)) q w))
+    lock-set-kept : (j : ℕ) (l : Lmode) (o : Holder) (q : Rebuild) → IsNode O j → GoodAfter (relocked c (upd (C .lock) j (lockOf l o)) q C) →
+        After x (answered a (advanced (setAt N j (withLmode (at j) l o)) q w))
     lock-set-kept j l o q b =
-        set-kept j (withLmode (nodeAt (s .nodes) j) l o) (s .blocks) q b (f .blocks) (f .blocks-bytes) (relocked c (upd (C .lock) j (lockOf l o)) q C)
+        set-kept j (withLmode (at j) l o) (s .blocks) q b (f .blocks) (f .blocks-bytes) (relocked c (upd (C .lock) j (lockOf l o)) q C)
         (rw (upd-keep (C .op) j, upd-keep (C .epoch) j, upd-keep (C .rset) j, upd-keep (C .entries) j))
 
     -- of all nodes the locks alone
-    relock-kept : (nodes' : List Node) (lock' : ℕ → Lock) (q : Rebuild) → length nodes' ≡ z .n → ((j : ℕ) → LockedAs (nodeAt (s .nodes) j) (lock' j) (nodeAt nodes' j)) →
+    relock-kept : (nodes' : List Node) (lock' : ℕ → Lock) (q : Rebuild) → length nodes' ≡ z .n → ((j : ℕ) → LockedAs (at j) (lock' j) (nodeAt nodes' j)) →
         GoodAfter (relocked c lock' q C) → After x (answered a (advanced nodes' q w))
     relock-kept nodes' lock' q size each =
-        phase-kept nodes' (s .blocks) (s .spare) q (other-nodes size) (relocked c lock' q C) (ap (setPhases (upd (C .phase) c q)) (relock-columns nodes' lock' each))
+        phase-kept nodes' (s .blocks) (s .spare) q (other-nodes size) (relocked c lock' q C)
+        (ap (setPhases (upd (C .phase) c q)) (relock-columns nodes' lock' each))
 
     lost-kept : GoodAfter (lost c C) → After x (answered a (Rebuild.lost c w))
-    lost-kept = relock-kept (map (expiredFor c) (s .nodes)) (λ j. expired c (C .lock j)) NoRebuild (length-map (s .nodes) (expiredFor c) ∙ f .nodes) (expired-each (s .nodes) c (i .low))
+    lost-kept = relock-kept (map (expiredFor c) N) (λ j. expired c (C .lock j)) NoRebuild (length-map N (expiredFor c) ∙ f .nodes) (expired-each N c (i .low))
 
   ---- the nodes that a call needs
   module _ {p : Rebuild} (i : In p) where
     -- "10: a rebuild call after Lock meets a needed node not held by c: all held by c become EXP; rebuild ends"
     needing : (x : Call) (held : Bool) (rest : Outcome Whole) → (held ≡ true → After x rest) → After x (holding held c w rest)
     unfolding holding
-    needing x held rest k = cond-ind (After x) held rest (answered (Refused NotHeld) (Rebuild.lost c w)) k (λ e. lost-kept i x (Refused NotHeld) (lost-good (ops z) h C g c))
+    needing x held rest k = cond-ind (After x) held rest _ k (λ e. lost-kept i x (Refused NotHeld) (lost-good O h C g c))
 
-    held-at : (j : ℕ) → Node.heldBy c (nodeAt (s .nodes) j) ≡ true → heldBy c (C .lock j) ≡ true
-    held-at j e = sym (held-is c (nodeAt (s .nodes) j) (i .low)) ∙ e
+    held-at : (j : ℕ) → Node.heldBy c (at j) ≡ true → heldBy c (C .lock j) ≡ true
+    held-at j e = sym (held-is c (at j) (i .low)) ∙ e
 
-    all-held : everyOf (Node.heldBy c) (s .nodes) ≡ true → (j : ℕ) → IsNode (ops z) j → heldBy c (C .lock j) ≡ true
-    all-held e j b = held-at j (every-at failedNode (Node.heldBy c) (s .nodes) e j (b .low) (rw (f .nodes) (b .high)))
+    all-held : everyOf (Node.heldBy c) N ≡ true → (j : ℕ) → IsNode O j → heldBy c (C .lock j) ≡ true
+    all-held e j b = held-at j (every-at failedNode (Node.heldBy c) N e j (b .low) (rw (f .nodes) (b .high)))
 
   ---- Lock
-  next-lock : {p : Rebuild} → In p → (old : List Lmode) → LocksNext (C .phase c) old → unlOrExp old ≡ true → length old < z .n → After (Calls.Lock c) (Rebuild.lockNode z c old w)
+  next-lock : {p : Rebuild} → In p → (old : List Lmode) → LocksNext (C .phase c) old → unlOrExp old ≡ true → length old < z .n →
+      After (Calls.Lock c) (Rebuild.lockNode z c old w)
   unfolding Rebuild.lockNode
   next-lock i old next fit more =
       rw (add-one (length old))
       (cond-ind (After (Calls.Lock c)) (Node.isL0 (x .lmode) || Node.isL1 (x .lmode)) _ _
-      (λ e. relock-kept i (Calls.Lock c) (Refused Locked) (restored c old (s .nodes)) (λ j. givenBack c old j (C .lock j)) NoRebuild (length-restored c old (s .nodes) ∙ f .nodes)
-      (restored-each (s .nodes) c (i .low) old fit) (gaveBack-good (ops z) h C g c old next))
-      (λ e. lock-set-kept i (Calls.Lock c) Accepted j Lmode.L1 (Client c) (cond (leb (z .n) j) (Picking 0) (Locking (old ++ (x .lmode ∷ [])))) (record { low = omega arith; high = more })
-      (locked-good (ops z) h C g c old next (x .lmode) (exp-is x) (sym (locked-is x) ∙ e))))
+      (λ e. relock-kept i (Calls.Lock c) (Refused Locked) (restored c old N) (λ j. givenBack c old j (C .lock j)) NoRebuild (length-restored c old N ∙ f .nodes)
+      (restored-each N c (i .low) old fit) (gaveBack-good O h C g c old next))
+      (λ e. lock-set-kept i (Calls.Lock c) Accepted j Lmode.L1 (Client c) (cond (leb (z .n) j) (Picking 0) (Locking (old ++ (x .lmode ∷ []))))
+      (record { low = omega arith; high = more }) (locked-good O h C g c old next (x .lmode) (exp-is x) (sym (locked-is x) ∙ e))))
     where
       j : ℕ
       j = suc (length old)
 
       x : Node
-      x = nodeAt (s .nodes) j
+      x = at j
 
   pub lock-kept : Kept z h (Calls.Lock c) (step z (Calls.Lock c) s)
   unfolding step Rebuild.lock Rebuild.lockIn unlOrExp
@@ -226,98 +240,106 @@ module _ (z : Sizes) (L : Laws (ops z)) (h : Ledger Block) (s : Stripe) (g : Goo
 
   ---- Pick
   abbrev chosen : NodeSet
-  chosen = pickedSet z (s .nodes)
+  chosen = pickedSet z N
 
   abbrev top : Epoch
-  top = record { 0 = largestEpoch (s .nodes) }
+  top = record { 0 = largestEpoch N }
 
-  enough : ltb (size chosen) (neededSize z (s .nodes)) ≡ false → z .k ≤ size chosen
+  enough : ltb (size chosen) (neededSize z N) ≡ false → z .k ≤ size chosen
   enough e =
-      let needed = ltb-false (size chosen) (neededSize z (s .nodes)) e in
-      let least = cond-ind (λ m. z .k ≤ m) (someRecons (s .nodes)) (z .k) (z .k + (z .failures - countInit (s .nodes))) (λ t. omega arith) (λ t. omega arith) in omega arith
+      let needed = ltb-false (size chosen) (neededSize z N) e in
+      let least = cond-ind (λ m. z .k ≤ m) (someRecons N) (z .k) (z .k + (z .failures - countInit N)) (λ t. omega arith) (λ t. omega arith) in omega arith
 
-  picks : In (Picking 0) → everyOf (Node.heldAtL1 c) (s .nodes) ≡ true → z .k ≤ size chosen → After (Calls.Pick c) (answered Accepted (Rebuild.picked z chosen (top .0) w))
+  picks : In (Picking 0) → everyOf (Node.heldAtL1 c) N ≡ true → z .k ≤ size chosen → After (Pick c) (answered Accepted (Rebuild.picked z chosen (top .0) w))
   picks i held many =
-      phase-kept i (Calls.Pick c) Accepted (s .nodes) (s .blocks) (recoveredTable (z .k) (z .n) (z .b) chosen (s .blocks)) (Writing 1 chosen top)
-      (record { nodes = f .nodes; blocks = f .blocks; spare = length-rebuilt z chosen (s .blocks); blocks-bytes = f .blocks-bytes; spare-bytes = bytes-rebuilt z chosen (s .blocks) })
-      (picked (ops z) c chosen top C) (rw (rebuilt-blocks z chosen (s .blocks) many))
-      (picked-good (ops z) L h C g c chosen top (picked-candidate z s (f .nodes) (L .n-18)) many
-      (λ j b. l1-is c (nodeAt (s .nodes) j) (every-at failedNode (Node.heldAtL1 c) (s .nodes) held j (b .low) (rw (f .nodes) (b .high)))) (λ j b. epoch-at-most (s .nodes) j))
+      phase-kept i (Pick c) Accepted N (s .blocks) (recoveredTable (z .k) (z .n) (z .b) chosen (s .blocks)) (Writing 1 chosen top)
+      (record {
+        nodes = f .nodes;
+        blocks = f .blocks;
+        spare = length-rebuilt z chosen (s .blocks);
+        blocks-bytes = f .blocks-bytes;
+        spare-bytes = bytes-rebuilt z chosen (s .blocks);
+      })
+      (picked O c chosen top C) (rw (rebuilt-blocks z chosen (s .blocks) many))
+      (picked-good O L h C g c chosen top (picked-candidate z s (f .nodes) (L .n-18)) many
+      (λ j b. l1-is c (at j) (every-at failedNode (Node.heldAtL1 c) N held j (b .low) (rw (f .nodes) (b .high)))) (λ j b. epoch-at-most N j))
 
-  pub pick-kept : Kept z h (Calls.Pick c) (step z (Calls.Pick c) s)
+  pub pick-kept : Kept z h (Pick c) (step z (Pick c) s)
   unfolding step Rebuild.pick Rebuild.pickIn Rebuild.pickNow
-  pick-kept = begins (After (Calls.Pick c)) (refuses (Calls.Pick c)) _ (λ p. Rebuild.pickIn z c p w) (λ e. or-none (outOfLimits z w) _ e .0) go
+  pick-kept = begins (After (Pick c)) (refuses (Pick c)) _ (λ p. Rebuild.pickIn z c p w) (λ e. or-none (outOfLimits z w) _ e .0) go
     where
-      out : After (Calls.Pick c) (refused OutOfPhase w)
-      out = refuses (Calls.Pick c) OutOfPhase
+      out : After (Pick c) (refused OutOfPhase w)
+      out = refuses (Pick c) OutOfPhase
 
-      more : (test : Bool) (why : Refusal) (rest : Outcome Whole) → (test ≡ false → After (Calls.Pick c) rest) → After (Calls.Pick c) (guard test why w rest)
-      more = tested (After (Calls.Pick c)) (refuses (Calls.Pick c))
+      more : (test : Bool) (why : Refusal) (rest : Outcome Whole) → (test ≡ false → After (Pick c) rest) → After (Pick c) (guard test why w rest)
+      more = tested (After (Pick c)) (refuses (Pick c))
 
-      go : (p : Rebuild) → In p → After (Calls.Pick c) (Rebuild.pickIn z c p w)
+      go : (p : Rebuild) → In p → After (Pick c) (Rebuild.pickIn z c p w)
       go NoRebuild i = out
       go (Locking old) i = out
-      go (Picking zero) i = more _ _ _ (λ r8. needing i (Calls.Pick c) _ _ (λ held. more _ _ _ (λ r11. more _ _ _ (λ r12. picks i held (enough r11)))))
+      go (Picking zero) i = more _ _ _ (λ r8. needing i (Pick c) _ _ (λ held. more _ _ _ (λ r11. more _ _ _ (λ r12. picks i held (enough r11)))))
       go (Picking (suc t)) i = out
       go (Writing j u e) i = out
       go (Settling j e) i = out
       go (Unlocking j) i = out
 
   ---- Weaken, Tighten
-  weakens : In (Picking 0) → someRecons (s .nodes) ≡ false → everyOf (Node.heldBy c) (s .nodes) ≡ true →
-      After (Calls.Weaken c) (answered Accepted (advanced (Rebuild.weakened z c (s .nodes)) (Picking (z .k + 1)) w))
+  weakens : In (Picking 0) → someRecons N ≡ false → everyOf (Node.heldBy c) N ≡ true →
+      After (Weaken c) (answered Accepted (advanced (Rebuild.weakened z c N) (Picking (z .k + 1)) w))
   weakens i none held =
       rw (add-one (z .k))
-      (relock-kept i (Calls.Weaken c) Accepted (Rebuild.weakened z c (s .nodes)) (λ j. cond (ltb (z .k) j && leb j (z .n)) (L0 c) (C .lock j)) (Picking (suc (z .k)))
-      (length-from failedNode (weakenedBy c) (z .k) (s .nodes) ∙ f .nodes) (weakened-each (s .nodes) c z (f .nodes))
-      (weakened-good (ops z) h C g c (i .phase) (all-held i held) (none-at failedNode (λ x. Node.isRecons (x .opmode)) refl (s .nodes) none)))
+      (relock-kept i (Weaken c) Accepted (Rebuild.weakened z c N) (λ j. cond (ltb (z .k) j && leb j (z .n)) (L0 c) (C .lock j)) (Picking (suc (z .k)))
+      (length-from failedNode (weakenedBy c) (z .k) N ∙ f .nodes) (weakened-each N c z (f .nodes))
+      (weakened-good O h C g c (i .phase) (all-held i held) (none-at failedNode (λ x. Node.isRecons (x .opmode)) refl N none)))
 
-  pub weaken-kept : Kept z h (Calls.Weaken c) (step z (Calls.Weaken c) s)
+  pub weaken-kept : Kept z h (Weaken c) (step z (Weaken c) s)
   unfolding step Rebuild.weaken Rebuild.weakenIn
-  weaken-kept = begins (After (Calls.Weaken c)) (refuses (Calls.Weaken c)) (outOfLimits z w) (λ p. Rebuild.weakenIn z c p w) (λ e. e) go
+  weaken-kept = begins (After (Weaken c)) (refuses (Weaken c)) (outOfLimits z w) (λ p. Rebuild.weakenIn z c p w) (λ e. e) go
     where
-      out : After (Calls.Weaken c) (refused OutOfPhase w)
-      out = refuses (Calls.Weaken c) OutOfPhase
+      out : After (Weaken c) (refused OutOfPhase w)
+      out = refuses (Weaken c) OutOfPhase
 
-      go : (p : Rebuild) → In p → After (Calls.Weaken c) (Rebuild.weakenIn z c p w)
+      go : (p : Rebuild) → In p → After (Weaken c) (Rebuild.weakenIn z c p w)
       go NoRebuild i = out
       go (Locking old) i = out
-      go (Picking zero) i = tested (After (Calls.Weaken c)) (refuses (Calls.Weaken c)) _ _ _ (λ none. needing i (Calls.Weaken c) _ _ (weakens i none))
+      go (Picking zero) i = tested (After (Weaken c)) (refuses (Weaken c)) _ _ _ (λ none. needing i (Weaken c) _ _ (weakens i none))
       go (Picking (suc t)) i = out
       go (Writing j u e) i = out
       go (Settling j e) i = out
       go (Unlocking j) i = out
 
-  tightens : (t : ℕ) → In (Picking (suc t)) → Node.heldBy c (nodeAt (s .nodes) (suc t)) ≡ true →
-      After (Calls.Tighten c) (answered Accepted (advanced (setAt (s .nodes) (suc t) (lockedBy c (nodeAt (s .nodes) (suc t)))) (cond (leb (z .n) (suc t)) (Picking 0) (Picking (suc t + 1))) w))
+  tightens : (t : ℕ) → In (Picking (suc t)) → Node.heldBy c (at (suc t)) ≡ true →
+      After (Tighten c) (answered Accepted
+      (advanced (setAt N (suc t) (lockedBy c (at (suc t)))) (cond (leb (z .n) (suc t)) (Picking 0) (Picking (suc t + 1))) w))
   tightens t i held =
       rw (add-one (suc t))
-      (lock-set-kept i (Calls.Tighten c) Accepted (suc t) Lmode.L1 (Client c) (cond (leb (z .n) (suc t)) (Picking 0) (Picking (suc (suc t))))
-      (record { low = omega arith; high = high (or-one (eqb (suc t) 0) (ltb (z .k) (suc t) && leb (suc t) (z .n)) (i .within)) }) (tightened-good (ops z) h C g c t (i .phase) (held-at i (suc t) held)))
+      (lock-set-kept i (Tighten c) Accepted (suc t) Lmode.L1 (Client c) (cond (leb (z .n) (suc t)) (Picking 0) (Picking (suc (suc t))))
+      (record { low = omega arith; high = high (or-one (eqb (suc t) 0) (ltb (z .k) (suc t) && leb (suc t) (z .n)) (i .within)) })
+      (tightened-good O h C g c t (i .phase) (held-at i (suc t) held)))
     where
       high : (eqb (suc t) 0 ≡ true) ⊎ ((ltb (z .k) (suc t) && leb (suc t) (z .n)) ≡ true) → suc t ≤ z .n
       high (inl e) = let zero-is = eqb-true (suc t) 0 e in absurd (omega arith)
       high (inr e) = search (and-right, leb-true)
 
-  pub tighten-kept : Kept z h (Calls.Tighten c) (step z (Calls.Tighten c) s)
+  pub tighten-kept : Kept z h (Tighten c) (step z (Tighten c) s)
   unfolding step Rebuild.tighten Rebuild.tightenIn
-  tighten-kept = begins (After (Calls.Tighten c)) (refuses (Calls.Tighten c)) (outOfLimits z w) (λ p. Rebuild.tightenIn z c p w) (λ e. e) go
+  tighten-kept = begins (After (Tighten c)) (refuses (Tighten c)) (outOfLimits z w) (λ p. Rebuild.tightenIn z c p w) (λ e. e) go
     where
-      out : After (Calls.Tighten c) (refused OutOfPhase w)
-      out = refuses (Calls.Tighten c) OutOfPhase
+      out : After (Tighten c) (refused OutOfPhase w)
+      out = refuses (Tighten c) OutOfPhase
 
-      go : (p : Rebuild) → In p → After (Calls.Tighten c) (Rebuild.tightenIn z c p w)
+      go : (p : Rebuild) → In p → After (Tighten c) (Rebuild.tightenIn z c p w)
       go NoRebuild i = out
       go (Locking old) i = out
       go (Picking zero) i = out
-      go (Picking (suc t)) i = needing i (Calls.Tighten c) _ _ (tightens t i)
+      go (Picking (suc t)) i = needing i (Tighten c) _ _ (tightens t i)
       go (Writing j u e) i = out
       go (Settling j e) i = out
       go (Unlocking j) i = out
 
   ---- Write
   module _ (j : ℕ) (set : NodeSet) (e : Epoch) (i : In (Writing j set e)) where
-    writing-node : IsNode (ops z) j
+    writing-node : IsNode O j
     writing-node = let fit = i .within in node j (search (and-left))
 
     -- the spare's block
@@ -327,70 +349,76 @@ module _ (z : Sizes) (L : Laws (ops z)) (h : Ledger Block) (s : Stripe) (g : Goo
     size-v : length v ≡ z .b
     size-v = length-block (z .b) (z .n) j (s .spare) (writing-node .low) (writing-node .high) (f .spare)
 
-    writes : Node.heldBy c (nodeAt (s .nodes) j) ≡ true → After (Calls.Write c) (answered Accepted (Rebuild.writtenAt z j set e w))
+    writes : Node.heldBy c (at j) ≡ true → After (Write c) (answered Accepted (Rebuild.writtenAt z j set e w))
     writes held =
         let low = writing-node .low in
         let high = writing-node .high in
         rw (add-one j)
-        (set-kept i (Calls.Write c) Accepted j (Node.written e set (nodeAt (s .nodes) j)) (setBlock (z .b) j v (s .blocks)) (writePhase (ops z) j set e) writing-node
-        (length-put (z .b) (z .n) j v (s .blocks) low high (f .blocks) size-v) (bytes-put (z .b) j v (s .blocks) (bytes-block (z .b) j (s .spare) (f .spare-bytes)) (f .blocks-bytes))
-        (written (ops z) c j set e C)
-        (rw (upd-keep (C .lock) j, upd-keep (C .entries) j, put-block (z .b) (z .n) j v (s .blocks) low high (f .blocks) size-v, ← block-view (z .b) (s .spare) j low))
-        (written-good (ops z) L h C g c j set e (i .phase) (held-at i j held)))
+        (set-kept i (Write c) Accepted j (Node.written e set (at j)) (setBlock (z .b) j v (s .blocks)) (writePhase O j set e) writing-node
+        (length-put (z .b) (z .n) j v (s .blocks) low high (f .blocks) size-v)
+        (bytes-put (z .b) j v (s .blocks) (bytes-block (z .b) j (s .spare) (f .spare-bytes)) (f .blocks-bytes))
+        (written O c j set e C)
+        (rw (
+          upd-keep (C .lock) j,
+          upd-keep (C .entries) j,
+          put-block (z .b) (z .n) j v (s .blocks) low high (f .blocks) size-v,
+          ← block-view (z .b) (s .spare) j low,
+        ))
+        (written-good O L h C g c j set e (i .phase) (held-at i j held)))
 
-  pub write-kept : Kept z h (Calls.Write c) (step z (Calls.Write c) s)
+  pub write-kept : Kept z h (Write c) (step z (Write c) s)
   unfolding step Rebuild.write Rebuild.writeIn
-  write-kept = begins (After (Calls.Write c)) (refuses (Calls.Write c)) _ (λ p. Rebuild.writeIn z c p w) (λ e. or-none (outOfLimits z w) _ e .0) go
+  write-kept = begins (After (Write c)) (refuses (Write c)) _ (λ p. Rebuild.writeIn z c p w) (λ e. or-none (outOfLimits z w) _ e .0) go
     where
-      out : After (Calls.Write c) (refused OutOfPhase w)
-      out = refuses (Calls.Write c) OutOfPhase
+      out : After (Write c) (refused OutOfPhase w)
+      out = refuses (Write c) OutOfPhase
 
-      go : (p : Rebuild) → In p → After (Calls.Write c) (Rebuild.writeIn z c p w)
+      go : (p : Rebuild) → In p → After (Write c) (Rebuild.writeIn z c p w)
       go NoRebuild i = out
       go (Locking old) i = out
       go (Picking t) i = out
-      go (Writing j set e) i = needing i (Calls.Write c) _ _ (writes j set e i)
+      go (Writing j set e) i = needing i (Write c) _ _ (writes j set e i)
       go (Settling j e) i = out
       go (Unlocking j) i = out
 
   ---- Settle
   -- either answer says that it is accepted
-  settle-entry : (last : Bool) → entry z (Calls.Settle c) (cond last Rebuilt Accepted) ≡ Ledger.Settle c
+  settle-entry : (last : Bool) → entry z (Settle c) (cond last Rebuilt Accepted) ≡ Ledger.Settle c
   settle-entry true = refl
   settle-entry false = refl
 
-  settles : (j : ℕ) (e : Epoch) → In (Settling j e) → everyOf (Node.heldBy c) (s .nodes) ≡ true →
-      After (Calls.Settle c) (answered (cond (leb (z .n) j) Rebuilt Accepted)
-      (advanced (setAt (s .nodes) j (Node.settled e (nodeAt (s .nodes) j))) (cond (leb (z .n) j) (Unlocking 1) (Settling (j + 1) e)) w))
+  settles : (j : ℕ) (e : Epoch) → In (Settling j e) → everyOf (Node.heldBy c) N ≡ true →
+      After (Settle c) (answered (cond (leb (z .n) j) Rebuilt Accepted)
+      (advanced (setAt N j (Node.settled e (at j))) (cond (leb (z .n) j) (Unlocking 1) (Settling (j + 1) e)) w))
   settles j e i held =
       let fit = i .within in
       rw (add-one j)
-      (set-kept i (Calls.Settle c) (cond (leb (z .n) j) Rebuilt Accepted) j (Node.settled e (nodeAt (s .nodes) j)) (s .blocks) (settlePhase (ops z) j e) (node j (search (and-left)))
-      (f .blocks) (f .blocks-bytes) (settled (ops z) c j e C) (rw (upd-keep (C .lock) j, add-one (e .0)))
-      (rw (settle-entry (leb (z .n) j)) (settled-good (ops z) L h C g c j e (i .phase) (all-held i held))))
+      (set-kept i (Settle c) (cond (leb (z .n) j) Rebuilt Accepted) j (Node.settled e (at j)) (s .blocks) (settlePhase O j e) (node j (search (and-left)))
+      (f .blocks) (f .blocks-bytes) (settled O c j e C) (rw (upd-keep (C .lock) j, add-one (e .0)))
+      (rw (settle-entry (leb (z .n) j)) (settled-good O L h C g c j e (i .phase) (all-held i held))))
 
-  pub settle-kept : Kept z h (Calls.Settle c) (step z (Calls.Settle c) s)
+  pub settle-kept : Kept z h (Settle c) (step z (Settle c) s)
   unfolding step Rebuild.settle Rebuild.settleIn
-  settle-kept = begins (After (Calls.Settle c)) (refuses (Calls.Settle c)) (outOfLimits z w) (λ p. Rebuild.settleIn z c p w) (λ e. e) go
+  settle-kept = begins (After (Settle c)) (refuses (Settle c)) (outOfLimits z w) (λ p. Rebuild.settleIn z c p w) (λ e. e) go
     where
-      out : After (Calls.Settle c) (refused OutOfPhase w)
-      out = refuses (Calls.Settle c) OutOfPhase
+      out : After (Settle c) (refused OutOfPhase w)
+      out = refuses (Settle c) OutOfPhase
 
-      go : (p : Rebuild) → In p → After (Calls.Settle c) (Rebuild.settleIn z c p w)
+      go : (p : Rebuild) → In p → After (Settle c) (Rebuild.settleIn z c p w)
       go NoRebuild i = out
       go (Locking old) i = out
       go (Picking t) i = out
       go (Writing j u e) i = out
-      go (Settling j e) i = needing i (Calls.Settle c) _ _ (settles j e i)
+      go (Settling j e) i = needing i (Settle c) _ _ (settles j e i)
       go (Unlocking j) i = out
 
   -- after an accepted settle the n blocks are one codeword, of first parts
-  pub settle-rebuilt : eqb (number (step z (Calls.Settle c) s .answer)) 0 ≡ true → Ledger.Rebuilt (ops z) h (blockOf (z .b) (step z (Calls.Settle c) s .after .blocks))
+  pub settle-rebuilt : eqb (number (step z (Settle c) s .answer)) 0 ≡ true → Ledger.Rebuilt O h (blockOf (z .b) (step z (Settle c) s .after .blocks))
   unfolding step Rebuild.settle Rebuild.settleIn holding
   settle-rebuilt = begins P out (outOfLimits z w) (λ p. Rebuild.settleIn z c p w) (λ e. e) go
     where
       P : Outcome Whole → Type 0
-      P o = eqb (number (o .answer)) 0 ≡ true → Ledger.Rebuilt (ops z) h (blockOf (z .b) (o .after .blocks))
+      P o = eqb (number (o .answer)) 0 ≡ true → Ledger.Rebuilt O h (blockOf (z .b) (o .after .blocks))
 
       out : (why : Refusal) → P (refused why w)
       out why e = clash e (refusal-number why)
@@ -400,47 +428,51 @@ module _ (z : Sizes) (L : Laws (ops z)) (h : Ledger Block) (s : Stripe) (g : Goo
       go (Locking old) i = out OutOfPhase
       go (Picking t) i = out OutOfPhase
       go (Writing j u e) i = out OutOfPhase
-      go (Settling j e) i = cond-ind P (everyOf (Node.heldBy c) (s .nodes)) _ _ (λ held t. settled-rebuilt (ops z) L h C g c j e (i .phase) (all-held i held)) (λ f t. clash t refl)
+      go (Settling j e) i =
+          cond-ind P (everyOf (Node.heldBy c) N) _ _ (λ held t. settled-rebuilt O L h C g c j e (i .phase) (all-held i held)) (λ f t. clash t refl)
       go (Unlocking j) i = out OutOfPhase
 
   ---- Unlock
-  unlocks : (j : ℕ) → In (Unlocking j) → Node.heldBy c (nodeAt (s .nodes) j) ≡ true →
-      After (Calls.Unlock c) (answered Accepted (advanced (setAt (s .nodes) j (Node.unlocked (nodeAt (s .nodes) j))) (cond (leb (z .n) j) NoRebuild (Unlocking (j + 1))) w))
+  unlocks : (j : ℕ) → In (Unlocking j) → Node.heldBy c (at j) ≡ true →
+      After (Unlock c) (answered Accepted (advanced (setAt N j (Node.unlocked (at j))) (cond (leb (z .n) j) NoRebuild (Unlocking (j + 1))) w))
   unlocks j i held =
       let b = node j (i .within) in
       rw (add-one j)
-      (lock-set-kept i (Calls.Unlock c) Accepted j Lmode.Unl Nobody (cond (leb (z .n) j) NoRebuild (Unlocking (suc j))) b (unlocked-good (ops z) h C g c j (i .phase) b (held-at i j held)))
+      (lock-set-kept i (Unlock c) Accepted j Lmode.Unl Nobody (cond (leb (z .n) j) NoRebuild (Unlocking (suc j))) b
+      (unlocked-good O h C g c j (i .phase) b (held-at i j held)))
 
-  pub unlock-kept : Kept z h (Calls.Unlock c) (step z (Calls.Unlock c) s)
+  pub unlock-kept : Kept z h (Unlock c) (step z (Unlock c) s)
   unfolding step Rebuild.unlock Rebuild.unlockIn
-  unlock-kept = begins (After (Calls.Unlock c)) (refuses (Calls.Unlock c)) (outOfLimits z w) (λ p. Rebuild.unlockIn z c p w) (λ e. e) go
+  unlock-kept = begins (After (Unlock c)) (refuses (Unlock c)) (outOfLimits z w) (λ p. Rebuild.unlockIn z c p w) (λ e. e) go
     where
-      out : After (Calls.Unlock c) (refused OutOfPhase w)
-      out = refuses (Calls.Unlock c) OutOfPhase
+      out : After (Unlock c) (refused OutOfPhase w)
+      out = refuses (Unlock c) OutOfPhase
 
-      go : (p : Rebuild) → In p → After (Calls.Unlock c) (Rebuild.unlockIn z c p w)
+      go : (p : Rebuild) → In p → After (Unlock c) (Rebuild.unlockIn z c p w)
       go NoRebuild i = out
       go (Locking old) i = out
       go (Picking t) i = out
       go (Writing j u e) i = out
       go (Settling j e) i = out
-      go (Unlocking j) i = needing i (Calls.Unlock c) _ _ (unlocks j i)
+      go (Unlocking j) i = needing i (Unlock c) _ _ (unlocks j i)
 
   ---- Quit, Stop
-  pub quit-kept : Kept z h (Calls.Quit c) (step z (Calls.Quit c) s)
+  pub quit-kept : Kept z h (Quit c) (step z (Quit c) s)
   unfolding step Rebuild.quit
   quit-kept =
-      begins (After (Calls.Quit c)) (refuses (Calls.Quit c)) (outOfLimits z w) (λ p. guard (not (hasRebuild p)) OutOfPhase w (answered Accepted (Rebuild.lost c w))) (λ e. e)
-      (λ p i. tested (After (Calls.Quit c)) (refuses (Calls.Quit c)) _ _ _ (λ r3. lost-kept i (Calls.Quit c) Accepted (lost-good (ops z) h C g c)))
+      begins (After (Quit c)) (refuses (Quit c)) (outOfLimits z w)
+      (λ p. guard (not (hasRebuild p)) OutOfPhase w (answered Accepted (Rebuild.lost c w))) (λ e. e)
+      (λ p i. tested (After (Quit c)) (refuses (Quit c)) _ _ _ (λ r3. lost-kept i (Quit c) Accepted (lost-good O h C g c)))
 
-  pub stop-kept : Kept z h (Calls.Stop c) (step z (Calls.Stop c) s)
+  pub stop-kept : Kept z h (Stop c) (step z (Stop c) s)
   unfolding step stop
   stop-kept =
-      begins (After (Calls.Stop c)) (refuses (Calls.Stop c)) (outOfLimits z w)
+      begins (After (Stop c)) (refuses (Stop c)) (outOfLimits z w)
       (λ p. answered Accepted (record { nodes = nodes'; client = Records.stopped client; blocks = s .blocks; spare = s .spare })) (λ e. e)
-      (λ p i. put-kept i (Calls.Stop c) Accepted nodes' (s .blocks) (s .spare) (Records.stopped client) (other-nodes (length-map (s .nodes) (expiredFor c) ∙ f .nodes)) (stopped c C)
-      (ap (λ D. withClient D c (Records.stopped client)) (relock-columns nodes' (λ j. expired c (C .lock j)) (expired-each (s .nodes) c (i .low))) ∙ rw (upd-keep (C .next) c))
-      (stopped-good (ops z) h C g c))
+      (λ p i. put-kept i (Stop c) Accepted nodes' (s .blocks) (s .spare) (Records.stopped client) (other-nodes (length-map N (expiredFor c) ∙ f .nodes))
+      (stopped c C)
+      (ap (λ D. withClient D c (Records.stopped client)) (relock-columns nodes' (λ j. expired c (C .lock j)) (expired-each N c (i .low)))
+      ∙ rw (upd-keep (C .next) c)) (stopped-good O h C g c))
     where
       nodes' : List Node
-      nodes' = map (expiredFor c) (s .nodes)
+      nodes' = map (expiredFor c) N

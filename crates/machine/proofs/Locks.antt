@@ -98,10 +98,8 @@ module _ (O : Ops) where
     abbrev May : ℕ → Lock → Type 0
     May j l = (l ≡ s .lock j) ⊎ Relocked G s c j l
 
-    abbrev PhaseWith : (ℕ → Lock) → Rebuild → ℕ → Type 0
-    PhaseWith lock' p j = PhaseOk O G c p j (s .op j) (lock' j) (s .epoch j)
-
-    pub relock : (lock' : ℕ → Lock) (p : Rebuild) → ((j : ℕ) → May j (lock' j)) → ((j : ℕ) → IsNode O j → PhaseWith lock' p j) → writes p ≡ false → Good O h (relocked c lock' p s)
+    pub relock : (lock' : ℕ → Lock) (p : Rebuild) → ((j : ℕ) → May j (lock' j)) →
+        ((j : ℕ) → IsNode O j → PhaseOk O G c p j (s .op j) (lock' j) (s .epoch j)) → writes p ≡ false → Good O h (relocked c lock' p s)
     relock lock' p may mine quiet =
         record {
           ghost = G;
@@ -113,7 +111,8 @@ module _ (O : Ops) where
             finished = I .finished;
             unl = λ e j i. unl e j i (may j);
             weak = λ r j e i. weak r j e i (may j);
-            phase = upd-ind (λ d q. (j : ℕ) → IsNode O j → PhaseOk O G d q j (s .op j) (lock' j) (s .epoch j)) (s .phase) c p mine (λ d ne j b. others d ne j b (may j));
+            phase = upd-ind (λ d q. (j : ℕ) → IsNode O j → PhaseOk O G d q j (s .op j) (lock' j) (s .epoch j)) (s .phase) c p mine
+                (λ d ne j b. others d ne j b (may j));
             rebuild = upd-ind (RebuildOk O G h (s .spare)) (s .phase) c p (rebuild-quiet O G h (s .spare) c p quiet) (λ d ne. I .rebuild d);
             one = λ d e a b. I .one d e (was d a) (was e b);
           };
@@ -180,8 +179,11 @@ module _ (O : Ops) where
       pub gaveBack-good : Good O h (gaveBack c old s)
       gaveBack-good =
           relock (λ j. givenBack c old j (s .lock j)) NoRebuild
-          (λ j. if-locked (leb j (length old) && heldBy c (s .lock j)) j (was j) (λ e. back j (and-both (leb j (length old)) (heldBy c (s .lock j)) e .1))) mine refl
+          (λ j. if-locked (test j) j (was j) (λ e. back j (and-both (leb j (length old)) (heldBy c (s .lock j)) e .1))) mine refl
         where
+          test : ℕ → Bool
+          test j = leb j (length old) && heldBy c (s .lock j)
+
           was : ℕ → Lock
           was j = cond (wasExp old j) Exp Unl
 
@@ -189,11 +191,12 @@ module _ (O : Ops) where
           was-ind P j e u = cond-ind P (wasExp old j) Exp Unl (λ t. e) (λ t. u)
 
           back : (j : ℕ) → heldBy c (s .lock j) ≡ true → Relocked G s c j (was j)
-          back j held = released j (was j) held (was-ind (λ l. isLocked l ≡ false) j refl refl) (λ t i. rw (locking j (of-live O (I .node j .live i)) .was held t i))
+          back j held =
+              released j (was j) held (was-ind (λ l. isLocked l ≡ false) j refl refl) (λ t i. rw (locking j (of-live O (I .node j .live i)) .was held t i))
 
           mine : (j : ℕ) → IsNode O j → heldBy c (givenBack c old j (s .lock j)) ≡ false
           mine j b =
-              cond-ind (λ l. heldBy c l ≡ false) (leb j (length old) && heldBy c (s .lock j)) (was j) (s .lock j) (λ e. was-ind (λ l. heldBy c l ≡ false) j refl refl)
+              cond-ind (λ l. heldBy c l ≡ false) (test j) (was j) (s .lock j) (λ e. was-ind (λ l. heldBy c l ≡ false) j refl refl)
               (λ f. is-false (heldBy c (s .lock j)) (λ q. let a = locking j b .before q in clash (rw (le-leb j (length old) (omega arith), q)) f))
 
       module _ (l : Lmode) (is-l : Node.isExp l ≡ isExp (s .lock (suc (length old)))) (free : isLocked (s .lock (suc (length old))) ≡ false) where
@@ -233,9 +236,11 @@ module _ (O : Ops) where
             (λ e. relock lock' (Picking 0) may (λ j b q t. locking' j b .tight q) refl) (λ e. relock lock' (Locking old') may locking' refl)
 
     ---- Weaken, Tighten, Unlock
-    pub weakened-good : s .phase c ≡ Picking 0 → ((j : ℕ) → IsNode O j → heldBy c (s .lock j) ≡ true) → ((j : ℕ) → isRecons (s .op j) ≡ false) → Good O h (weakened c s)
+    pub weakened-good : s .phase c ≡ Picking 0 → ((j : ℕ) → IsNode O j → heldBy c (s .lock j) ≡ true) → ((j : ℕ) → isRecons (s .op j) ≡ false) →
+        Good O h (weakened c s)
     weakened-good p held no-recons =
-        relock weak-lock (Picking (suc k)) (λ j. if-locked (ltb k j && leb j n) j (L0 c) (λ e. redundant j (and-both (ltb k j) (leb j n) e))) (λ j b q f. mine j b f) refl
+        relock weak-lock (Picking (suc k)) (λ j. if-locked (ltb k j && leb j n) j (L0 c) (λ e. redundant j (and-both (ltb k j) (leb j n) e)))
+        (λ j b q f. mine j b f) refl
       where
         weak-lock : ℕ → Lock
         weak-lock j = cond (ltb k j && leb j n) (L0 c) (s .lock j)

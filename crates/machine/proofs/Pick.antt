@@ -37,7 +37,8 @@ module _ (O : Ops) where
   -- f of node a is within f of node b: what is recent at a, and marked old at no NORM node, is recent at b
   abbrev pub FWithin : Columns B → ℕ → ℕ → Type 0
   FWithin s a b =
-      (x : WriteId) → isRecentIn x (s .entries a) ≡ true → ((j : ℕ) → isNorm (s .op j) ≡ true → isOldIn x (s .entries j) ≡ false) → isRecentIn x (s .entries b) ≡ true
+      (x : WriteId) → isRecentIn x (s .entries a) ≡ true → ((j : ℕ) → isNorm (s .op j) ≡ true → isOldIn x (s .entries j) ≡ false) →
+      isRecentIn x (s .entries b) ≡ true
 
   -- data nodes alone, or nodes that fit the redundant node r; of a data member's f and that of r only one inclusion is needed
   pub data Consistent (s : Columns B) (w : NodeSet) : Type 0 where
@@ -68,7 +69,8 @@ module _ (O : Ops) where
 
   module _ {G : Ghost} {h : Ledger B} {s : Columns B} (I : Inv O G h s) where
     -- with a node written or settled: they stand at its cut
-    cut-agrees : {w : NodeSet} (r : ℕ) → Under-way G s r → Each w (λ j. isInit (s .op j) ≡ false) → Each w (λ j. (i : ℕ) → Spot O j i → G .inBlock j i ≡ G .cut i) → Agrees G h s w
+    cut-agrees : {w : NodeSet} (r : ℕ) → Under-way G s r → Each w (λ j. isInit (s .op j) ≡ false) →
+        Each w (λ j. (i : ℕ) → Spot O j i → G .inBlock j i ≡ G .cut i) → Agrees G h s w
     cut-agrees r e live at-cut = record { cut = G .cut; between = between e; live = live; at-cut = at-cut; same = λ j t i. refl }
       where
         between : Under-way G s r → (i : ℕ) → IsPos O i → Between O h (G .cut i) i
@@ -101,7 +103,8 @@ module _ (O : Ops) where
               let same-b = unwritten b nb .same i at-b in
               let most : l ≤ h .len i = (let m = live a na .between i at-a .most in omega arith) in
               let recent = I .node a .list .undone i l at-a low (omega arith) undone in
-              let there = within (G .idOf i l) recent (λ j t. is-false (isOldIn (G .idOf i l) (s .entries j)) (λ o. clash (I .node j .list .old i l low most o) undone)) in
+              let there = within (G .idOf i l) recent
+              (λ j t. is-false (isOldIn (G .idOf i l) (s .entries j)) (λ o. clash (I .node j .list .old i l low most o) undone)) in
               let in-list = counted O I b i l low most (recent-listed (G .idOf i l) (s .entries b) there) .1 in omega arith
 
           go : (h .done i (G .inBlock a i) ≡ true) ⊎ (h .done i (G .inBlock a i) ≡ false) → G .inBlock a i ≤ G .inBlock b i

@@ -42,7 +42,8 @@ module _ (O : Ops) where
   between-step h' b = record { most = b .most; least = b .least }
 
   -- a list with nothing in it
-  pub empty-list : (G : Ghost) (h : Ledger B) (j : ℕ) (es : List Entry) → ((i : ℕ) → G .inList j i ≡ 0) → ((x : WriteId) → isListed x es ≡ true → ⊥) → ListOk O G h j es
+  pub empty-list : (G : Ghost) (h : Ledger B) (j : ℕ) (es : List Entry) → ((i : ℕ) → G .inList j i ≡ 0) → ((x : WriteId) → isListed x es ≡ true → ⊥) →
+      ListOk O G h j es
   empty-list G h j es none empty =
       record {
         short = λ i. rw (none i) (omega arith);
@@ -55,7 +56,14 @@ module _ (O : Ops) where
   module _ {G : Ghost} (G' : Ghost) {h : Ledger B} (h' : Ledger B) where
     pub ids-step : {next : ℕ → ℕ} → IdsOk O G h next → IdsOk O (standing G G') (counting h h') next
     ids-step v =
-        record { idOf-pos = v .idOf-pos; idOf-inj = v .idOf-inj; idOf-old = v .idOf-old; zero-done = v .zero-done; done-len = v .done-len; no-stale = v .no-stale }
+        record {
+          idOf-pos = v .idOf-pos;
+          idOf-inj = v .idOf-inj;
+          idOf-old = v .idOf-old;
+          zero-done = v .zero-done;
+          done-len = v .done-len;
+          no-stale = v .no-stale;
+        }
 
     pub finished-step : {c next : ℕ} {ids : List WriteId} → FinishedOk O G h c next ids → FinishedOk O (standing G G') (counting h h') c next ids
     finished-step v = record { done = v .done; client = v .client; number = v .number }
@@ -84,7 +92,8 @@ module _ (O : Ops) where
 
     -- a hand is concerned with the nodes that are NORM and not settled: these were so, and have the same swaps in their blocks
     pub hand-step : {op : ℕ → Opmode} (op' : ℕ → Opmode) →
-        ((j : ℕ) → isNorm (op' j) ≡ true → G' .isSettled j ≡ false → (isNorm (op j) ≡ true) × (G .isSettled j ≡ false) × ((i : ℕ) → G' .inBlock j i ≡ G .inBlock j i)) →
+        ((j : ℕ) → isNorm (op' j) ≡ true → G' .isSettled j ≡ false →
+        (isNorm (op j) ≡ true) × (G .isSettled j ≡ false) × ((i : ℕ) → G' .inBlock j i ≡ G .inBlock j i)) →
         {c : ℕ} {d : B} {w : Write} → HandOk O G h op c d w → HandOk O (standing G G') (counting h h') op' c d w
     hand-step {op} op' was {c} {d} {w} =
         hand-frame O G (standing G G') h (counting h h') op op' c d w

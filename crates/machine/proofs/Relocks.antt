@@ -80,7 +80,8 @@ module _ (nodes : List Node) (c : ℕ) where
           x : Node
           x = getD nodes j failedNode
 
-          go : (t : Bool) → leb (suc j) (length old) ≡ t → LockedAs x (cond (t && heldBy c (lockIn x)) (cond (Node.isExp l) Exp Unl) (lockIn x)) (getD (restored c old nodes) j failedNode)
+          go : (t : Bool) → leb (suc j) (length old) ≡ t →
+              LockedAs x (cond (t && heldBy c (lockIn x)) (cond (Node.isExp l) Exp Unl) (lockIn x)) (getD (restored c old nodes) j failedNode)
           go true q =
               rw (restored-first c old nodes j (leb-true (suc j) (length old) q), ← held-is c x c1)
               (one-test (Node.heldBy c x) (given x l (unl-or-exp old fit j)) (as-it-is x))

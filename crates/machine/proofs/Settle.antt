@@ -18,7 +18,7 @@ use Rattle.records.specs.Node.{isInit, isNorm, isRecons}
 use Rattle.records.specs.Client.{Rebuild, Settling, Unlocking}
 use Rattle.machine.proofs.Base.{upd, upd-same, upd-other, upd-ind, each-place, clash, bool-cases}
 use Rattle.machine.proofs.EntryLaws.{listed-nil}
-use Rattle.machine.proofs.Columns.{Ops, L1, isUnl, isL0, heldBy, Columns, setOps, setEpochs, setRsets, setEntries, setPhases}
+use Rattle.machine.proofs.Columns.{Ops, L1, heldBy, Columns, setOps, setEpochs, setRsets, setEntries, setPhases}
 use Rattle.machine.proofs.Ledger.{Ledger, IsPos, noteCount, noteFinish, noteSettle, zeroth, isLast, Rebuilt}
 use Rattle.machine.proofs.Invariant.{Ghost, Laws, code, IsNode, at, OnCut, NodeOk, PairOk, writes, SettlingOk, SettlerOk, Inv, Good}
 use Rattle.machine.proofs.Frame.{of-live, recons-live, norm-live, norm-recons, code-data, code-red, code-ext}
@@ -282,7 +282,8 @@ module _ (O : Ops) where
                   between = λ i sp. record { most = omega arith; least = zero-le i };
                   epoch = omega (arith, epoch-all j b);
                 };
-            unwritten = λ t f. record { epoch = epoch-all j (in-range j (norm-live (s' .op j) t)); same = λ i sp. refl; own = λ q. refl; newest = λ q. inr refl };
+            unwritten = λ t f. let b = in-range j (norm-live (s' .op j) t) in
+                record { epoch = epoch-all j b; same = λ i sp. refl; own = λ q. refl; newest = λ q. inr refl };
             written = λ t. no-recons j t;
             settled = λ t. clash t refl;
             list = empty-list O Gf hf j (s' .entries j) (λ i. refl) (empty j);

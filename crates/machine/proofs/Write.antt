@@ -14,7 +14,7 @@ use Rattle.records.specs.declared.Epoch.{Epoch}
 use Rattle.records.specs.Node.{isInit, isNorm, isRecons}
 use Rattle.records.specs.Client.{Write, Rebuild, Writing, Settling}
 use Rattle.machine.proofs.Base.{upd, upd-same, upd-other, upd-ind, each-place, clash, cond-ind}
-use Rattle.machine.proofs.Columns.{Ops, L1, isUnl, isL0, heldBy, Columns, setBlocks, setOps, setEpochs, setRsets, setPhases}
+use Rattle.machine.proofs.Columns.{Ops, L1, heldBy, Columns, setBlocks, setOps, setEpochs, setRsets, setPhases}
 use Rattle.machine.proofs.Ledger.{Ledger}
 use Rattle.machine.proofs.Invariant.{Ghost, Laws, code, IsNode, Spot, at, Between, NodeOk, PairOk, HandOk, writes, WritingOk, PhaseOk, WriterOk, RebuildOk, Inv, Good}
 use Rattle.machine.proofs.Frame.{of-live, norm-live, list-frame}
@@ -143,7 +143,8 @@ module _ (O : Ops) where
 
     hand : (d : ℕ) (u : Write) → s .hand d ≡ some u → HandOk O G' h op' d (s .difference d) u
     hand d u q =
-        hand-step O G' h op' (λ j a b. let (ne, norm) = norm-other j a in (norm, sym (upd-other (G .isSettled) x false j ne) ∙ b, inBlock-other j ne)) (I .hand d u q)
+        hand-step O G' h op' (λ j a b. let (ne, norm) = norm-other j a in (norm, sym (upd-other (G .isSettled) x false j ne) ∙ b, inBlock-other j ne))
+        (I .hand d u q)
 
     ---- the phases
     behind : (j : ℕ) → IsNode O j → heldBy c (s .lock j) ≡ true → 1 ≤ j → j < suc x → isRecons (op' j) ≡ true
@@ -170,7 +171,14 @@ module _ (O : Ops) where
           high = omega (arith, writer .low, writer .high);
           count = λ y q. writer .count ∙ ap some (first y q);
         })
-        (λ t. record { epoch = writer .epoch; between = writer .between; low = omega arith; high = leb-false n x t; spare = writer .spare; count = writer .count })
+        (λ t. record {
+          epoch = writer .epoch;
+          between = writer .between;
+          low = omega arith;
+          high = leb-false n x t;
+          spare = writer .spare;
+          count = writer .count;
+        })
       where
         first : (y : ℕ) → 1 ≡ suc y → 0 ≡ y
         first y q = omega arith
