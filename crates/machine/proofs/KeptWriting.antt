@@ -247,8 +247,14 @@ module _ (z : Sizes) (L : Laws (ops z)) (h : Ledger Block) (s : Stripe) (g : Goo
       unfolding Writing.addEnter
       add-entered =
           tested add j c _ _ _ (λ r7. cond-ind (After add j c) (Writing.isComplete z (w .id .position) (including j (w .done))) _ _
-          (λ e. record { good = rw (add-seen (finishedWrite (w .id) (clientOf c)) refl refl) (add-done-good (ops z) L h C c j w g may (complete e)); fits = add-fits _ })
-          (λ e. record { good = rw (add-seen (withHand (some w') (clientOf c)) refl refl, upd-keep (C .finished) c) (add-more-good (ops z) L h C c j w g may); fits = add-fits _ }))
+          (λ e. record {
+            good = rw (add-seen (finishedWrite (w .id) (clientOf c)) refl refl) (add-done-good (ops z) L h C c j w g may (complete e));
+            fits = add-fits (finishedWrite (w .id) (clientOf c));
+          })
+          (λ e. record {
+            good = rw (add-seen (withHand (some w') (clientOf c)) refl refl, upd-keep (C .finished) c) (add-more-good (ops z) L h C c j w g may);
+            fits = add-fits (withHand (some w') (clientOf c));
+          }))
         where
           w' : Write
           w' = Writing.withDone w (including j (w .done))
@@ -323,7 +329,9 @@ module _ (z : Sizes) (L : Laws (ops z)) (h : Ledger Block) (s : Stripe) (g : Goo
     check-written client none e = at-refused z h s g f check j c _
     check-written client (some w) e =
         tested check j c _ _ _ (λ r3. cond-ind (After check j c) (not (isRecentIn (w .id) (C .entries j))) _ _
-        (λ gone. kept-hand check j c CheckInit _ client (λ b. refl) (check-init-good (ops z) L h C c j w g e (not-true (isRecentIn (w .id) (C .entries j)) gone)))
+        (λ gone.
+        let old = not-true (isRecentIn (w .id) (C .entries j)) gone in
+        kept-hand check j c CheckInit _ client (λ b. refl) (check-init-good (ops z) L h C c j w g e old))
         (λ there. cond-ind (After check j c) (Writing.previousRecent (w .previous) (C .entries j)) _ _
         (λ known. kept-same check j c NoChange (λ b. refl))
         (λ unknown.
