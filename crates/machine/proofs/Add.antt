@@ -72,6 +72,7 @@ module _ (O : Ops) where
               let a = I .node j .settled (I .pair m j .together e (M .norm)) .later in let b = hand-ok .epoch in let d = M .epoch in absurd (omega arith));
         }
 
+    -- the node's epoch tells that no rebuild has finished since the write's swap
     own : Own O G h (s .op) c (s .difference c) w
     own = hand-ok .own (let a = hand-ok .epoch in let b = M .epoch in let d = all-unwritten O I takes j live .epoch in omega arith)
 
@@ -100,6 +101,7 @@ module _ (O : Ops) where
         go (inl e) = in-list q (let a = own .high in omega arith) (subst (λ p. previousListed p (s .entries j) ≡ true) e (M .previous))
         go (inr e) = I .node j .live live .between i spot .least q e
 
+    -- and the write itself is not
     before : G .inBlock j i ≡ q
     before = let a = reached in let b = own .not-done j (M .redundant) (M .norm) (takes .unsettled j) (M .todo) in omega arith
 
@@ -119,7 +121,7 @@ module _ (O : Ops) where
             upd-ind (λ y t. upd was i (h .val i (suc q)) y ≡ h .val y t) (G .inBlock j) i (suc q) (upd-same was i (h .val i (suc q)))
             (upd-other was i (h .val i (suc q)))
 
-    ---- after an add dn is done: the same, or this write besides
+    ---- dn is done after the add: the same, or this write besides
     module _ {dn : ℕ → ℕ → Bool} (D : DoneThen O G h s j i q dn) where
       abbrev h' : Ledger B
       h' = record { len = h .len; val = h .val; done = dn; last = h .last; stale = h .stale; settles = h .settles; failed = h .failed }
@@ -169,8 +171,8 @@ module _ (O : Ops) where
               (λ p a b t f g. ne (sym (own .client) ∙ ap (λ (x : WriteId). x .client) (own .is ∙ (λ z. G .idOf (sym f z) (suc (sym g z))) ∙ sym b) ∙ t))
               (I .hand d u e)
 
-      finisheds : (d : ℕ) → FinishedOk O G' h' d (s .next d) (s .finished d)
-      finisheds d =
+      finished-lists : (d : ℕ) → FinishedOk O G' h' d (s .next d) (s .finished d)
+      finished-lists d =
           let v = I .finished d in
           record { done = λ x e y l a b f. D .still y l (v .done x e y l a b f); client = v .client; number = v .number }
 
@@ -207,7 +209,7 @@ module _ (O : Ops) where
     more-inv : Inv O G' h (added s c j w)
     more-inv =
         entered-inv O L I takes (enters as-before) (s .next) (upd (s .hand) c (some w')) (s .difference) (s .finished) (ids as-before)
-        (hands as-before (some w') (λ u e. subst (HandOk O G' h (s .op) c (s .difference c)) (some-same e) mine)) (finisheds as-before)
+        (hands as-before (some w') (λ u e. subst (HandOk O G' h (s .op) c (s .difference c)) (some-same e) mine)) (finished-lists as-before)
       where
         as-before : DoneThen O G h s j i q (h .done)
         as-before = record { still = λ y l e. e; only = λ y l e. inl e }
@@ -237,7 +239,7 @@ module _ (O : Ops) where
                 (λ e. inr (refl, refl, everywhere)) (λ y l d e. inl e);
           }
 
-      -- the finished list then
+      -- the finished list then, and its ids
       abbrev finished' : List WriteId
       finished' = s .finished c ++ (w .id ∷ [])
 
@@ -248,8 +250,8 @@ module _ (O : Ops) where
           go (inl t) = f x t
           go (inr t) = subst P (same-id (w .id) x t) p
 
-      mine-finished : FinishedOk O G' (h' besides) c (s .next c) finished'
-      mine-finished =
+      own-finished : FinishedOk O G' (h' besides) c (s .next c) finished'
+      own-finished =
           record {
             done = finished-cases (λ x. (y l : ℕ) → 1 ≤ l → l ≤ h .len y → G .idOf y l ≡ x → dn y l ≡ true) done
                 (λ x e y l a b t. besides .still y l (I .finished c .done x e y l a b t));
@@ -269,7 +271,7 @@ module _ (O : Ops) where
       done-inv =
           entered-inv O L I takes (enters besides) (s .next) (upd (s .hand) c none) (s .difference) (upd (s .finished) c finished') (ids besides)
           (hands besides none (λ u e. not-some e))
-          (upd-ind (λ d t. FinishedOk O G' (h' besides) d (s .next d) t) (s .finished) c finished' mine-finished (λ d e. finisheds besides d))
+          (upd-ind (λ d t. FinishedOk O G' (h' besides) d (s .next d) t) (s .finished) c finished' own-finished (λ d e. finished-lists besides d))
 
   pub add-more-good : Laws O → (h : Ledger B) (s : Columns B) (c j : ℕ) (w : Write) → Good O h s → MayAdd s c j w → Good O h (added s c j w)
   add-more-good L h s c j w g M = record { ghost = _; inv = more-inv L (g .inv) M }

@@ -283,13 +283,13 @@ module _ (O : Ops) where
         ((c : ℕ) (w : Write) → hand c ≡ some w → HandOk O G' h' (s .op) c (difference c) w) → ((c : ℕ) → FinishedOk O G' h' c (next c) (finished c)) →
         Inv O G' h' (setBlocks (upd (s .block) j b) (setEntries (upd (s .entries) j (enter id es))
         (setNexts next (setHands hand (setDifferences difference (setFinished finished s))))))
-    entered-inv next hand difference finished ids hands finisheds =
+    entered-inv next hand difference finished ids hands finished-lists =
         record {
           ids = ids;
           node = node;
           pair = λ m l. record { together = I .pair m l .together; only = I .pair m l .only; member = λ t. not-cut I T m (inl (I .pair m l .only t)) };
           hand = hands;
-          finished = finisheds;
+          finished = finished-lists;
           unl = I .unl;
           weak = I .weak;
           phase = λ c m r. phase-quiet O G G' refl c m (s .phase c) (s .op m) (s .lock m) (s .epoch m) (nobody c) (I .phase c m r);

@@ -201,8 +201,8 @@ module _ (O : Ops) where
         another : (p y : ℕ) → suc p ≤ h .len y → y ≡ i → p ≢ q
         another p y a e f = let b : suc p ≤ q = rw e at a in omega arith
 
-    finisheds : (d : ℕ) → FinishedOk O G' h' d (next' d) (s .finished d)
-    finisheds d =
+    finished-lists : (d : ℕ) → FinishedOk O G' h' d (next' d) (s .finished d)
+    finished-lists d =
         record {
           done = λ x e y l a b. place-ind (λ y l. 1 ≤ l → idOf' y l ≡ x → h .done y l ≡ true) (h .len) i
               (λ a t. absurd (not-new x e (sym (upd2-same (G .idOf) i (suc q) id) ∙ t)))
@@ -219,7 +219,7 @@ module _ (O : Ops) where
 
     swap-inv : Inv O G' h' (swapped s c i v)
     swap-inv =
-        entered-inv O L I takes enters next' hand' difference' (s .finished) ids hands finisheds
+        entered-inv O L I takes enters next' hand' difference' (s .finished) ids hands finished-lists
 
   pub swap-good : Laws O → (h : Ledger B) (s : Columns B) (c i : ℕ) (v : B) → Good O h s → IsPos O i →
       isNorm (s .op i) ≡ true → isUnl (s .lock i) ≡ true → Good O (noteSwap h c i v) (swapped s c i v)
