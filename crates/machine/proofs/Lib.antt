@@ -21,4 +21,5 @@ pub mod KeptStart
 pub mod KeptWriting
 pub mod Told
 pub mod Limits
+pub mod Largest
 pub mod Examples

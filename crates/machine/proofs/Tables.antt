@@ -38,22 +38,22 @@ val-of x = refl
 pub val-byte : (x : ℕ) → x < 256 → byteOf x .val ≡ x
 val-byte x l = val-of x ∙ byte-low x l
 
-pub of-low : (x : ℕ) → byteOf (x % 256) ≡ byteOf x
+of-low : (x : ℕ) → byteOf (x % 256) ≡ byteOf x
 of-low x = byte-eq (byteOf (x % 256)) (byteOf x) (rw (val-of (x % 256), val-of x) (omega arith))
 
----- a list, and a block of a table, by bytes
+---- a list by bytes
 
--- the first b bytes of a list are the block y, if they are at each place, and y is zero past them
-pub view-is : (b : ℕ) (l : List ℕ) (y : Block) → ((p : ℕ) → p < b → byteOf (getD l p 0) ≡ y p) → ((p : ℕ) → b ≤ p → byteOf 0 ≡ y p) → view b l ≡ y
+-- its first b bytes are the block y, if they are at each place, and y is zero past them
+view-is : (b : ℕ) (l : List ℕ) (y : Block) → ((p : ℕ) → p < b → byteOf (getD l p 0) ≡ y p) → ((p : ℕ) → b ≤ p → byteOf 0 ≡ y p) → view b l ≡ y
 unfolding view
 view-is b l y within past =
     fun-ext (λ p. cond-ind (λ x. x ≡ y p) (ltb p b) (byteOf (getD l p 0)) (byteOf 0) (λ e. within p (ltb-true p b e)) (λ e. past p (ltb-false p b e)))
 
-pub view-at : (b : ℕ) (l : List ℕ) (p : ℕ) → p < b → view b l p ≡ byteOf (getD l p 0)
+view-at : (b : ℕ) (l : List ℕ) (p : ℕ) → p < b → view b l p ≡ byteOf (getD l p 0)
 unfolding view
 view-at b l p h = rw (lt-ltb p b h)
 
-pub view-past : (b : ℕ) (l : List ℕ) (p : ℕ) → b ≤ p → view b l p ≡ byteOf 0
+view-past : (b : ℕ) (l : List ℕ) (p : ℕ) → b ≤ p → view b l p ≡ byteOf 0
 unfolding view
 view-past b l p h = rw (le-ltb p b h)
 
@@ -67,6 +67,7 @@ view-injective b u v lu lv bytes-u bytes-v e = ext-getD 0 u v (lu ∙ sym lv) (�
     same : (p : ℕ) → p < b → getD u p 0 ≡ getD v p 0
     same p h = sym (val-at u p bytes-u h) ∙ ap (λ (x : Block). x p .val) e ∙ val-at v p bytes-v h
 
+---- the blocks of a table by bytes
 module _ (b : ℕ) (t : List ℕ) where
   -- what is seen of block j is what a call reads of it
   pub block-view : (j : ℕ) → 1 ≤ j → blockOf b t j ≡ view b (block b j t)
@@ -78,27 +79,28 @@ module _ (b : ℕ) (t : List ℕ) where
   block-val j p j1 lp =
       ap (λ (x : Block). x p .val) (block-view j j1) ∙ rw (view-at b (block b j t) p lp, val-of (getD (block b j t) p 0), block-at b j t p lp)
 
-  pub block-past : (j p : ℕ) → b ≤ p → blockOf b t j p .val ≡ 0
+  block-past : (j p : ℕ) → b ≤ p → blockOf b t j p .val ≡ 0
   unfolding blockOf
   block-past zero p l = val-of 0
   block-past (suc j) p l = rw (view-past b (part (j * b) b t) p l) (val-of 0)
 
-  pub block-is : (j : ℕ) (y : Block) → 1 ≤ j → ((p : ℕ) → p < b → byteOf (byteAt b t j p) ≡ y p) → ((p : ℕ) → b ≤ p → byteOf 0 ≡ y p) → blockOf b t j ≡ y
+  -- what is to be shown of a block
+  block-is : (j : ℕ) (y : Block) → 1 ≤ j → ((p : ℕ) → p < b → byteOf (byteAt b t j p) ≡ y p) → ((p : ℕ) → b ≤ p → byteOf 0 ≡ y p) → blockOf b t j ≡ y
   block-is j y j1 within past = block-view j j1 ∙ view-is b (block b j t) y (λ p l. ap byteOf (block-at b j t p l) ∙ within p l) past
 
   -- blocks are numbered from 1, up to the end of the table
-  pub no-block : blockOf b t 0 ≡ zeroBlock
+  no-block : blockOf b t 0 ≡ zeroBlock
   unfolding blockOf
   no-block = refl
 
-  pub block-none : (j : ℕ) → 1 ≤ j → length t ≤ (j - 1) * b → blockOf b t j ≡ zeroBlock
+  block-none : (j : ℕ) → 1 ≤ j → length t ≤ (j - 1) * b → blockOf b t j ≡ zeroBlock
   unfolding byteAt
   block-none j j1 l =
       block-is j zeroBlock j1 (λ p lp. ap byteOf (List·getD-eq-default t 0 {n = (j - 1) * b + p} (omega arith))) (λ p lp. refl)
 
 ---- bytes
 
-pub bytes-append : (s t : List ℕ) → Bytes s → Bytes t → Bytes (s ++ t)
+bytes-append : (s t : List ℕ) → Bytes s → Bytes t → Bytes (s ++ t)
 bytes-append s t x y = record { small = λ q. go s q (x .small) }
   where
     go : (s : List ℕ) (q : ℕ) → ((q : ℕ) → getD s q 0 < 256) → getD (s ++ t) q 0 < 256
@@ -106,10 +108,10 @@ bytes-append s t x y = record { small = λ q. go s q (x .small) }
     go (a ∷ s) zero h = h 0
     go (a ∷ s) (suc q) h = go s q (λ r. h (suc r))
 
-pub bytes-drop : (n : ℕ) (t : List ℕ) → Bytes t → Bytes (drop n t)
+bytes-drop : (n : ℕ) (t : List ℕ) → Bytes t → Bytes (drop n t)
 bytes-drop n t x = record { small = λ q. rw (getD-drop n t q 0) (x .small (n + q)) }
 
-pub bytes-take : (n : ℕ) (t : List ℕ) → Bytes t → Bytes (take n t)
+bytes-take : (n : ℕ) (t : List ℕ) → Bytes t → Bytes (take n t)
 bytes-take n t x = record { small = λ q. by q (decLt q n) }
   where
     by : (q : ℕ) → Dec (q < n) → getD (take n t) q 0 < 256
@@ -127,7 +129,7 @@ bytes-put b j v t x y =
     bytes-append (take a t) (v ++ drop b (drop a t)) (bytes-take a t y)
     (bytes-append v (drop b (drop a t)) x (bytes-drop b (drop a t) (bytes-drop a t y)))
 
-pub bytes-zip : (f : ℕ → ℕ → ℕ) → ((x y : ℕ) → x < 256 → y < 256 → f x y < 256) → (u v : List ℕ) → Bytes u → Bytes v → Bytes (zip f u v)
+bytes-zip : (f : ℕ → ℕ → ℕ) → ((x y : ℕ) → x < 256 → y < 256 → f x y < 256) → (u v : List ℕ) → Bytes u → Bytes v → Bytes (zip f u v)
 unfolding zip
 bytes-zip f closed u v x y = record { small = go u v (x .small) (y .small) }
   where
@@ -150,7 +152,7 @@ bytes-one a l = record { small = go }
     go zero = l
     go (suc q) = omega arith
 
-pub bytes-table : (n b : ℕ) (f : ℕ → ℕ → ℕ) → ((j p : ℕ) → f j p < 256) → Bytes (table n b f)
+bytes-table : (n b : ℕ) (f : ℕ → ℕ → ℕ) → ((j p : ℕ) → f j p < 256) → Bytes (table n b f)
 unfolding table listOf
 bytes-table zero b f h = record { small = λ q. omega arith }
 bytes-table (suc n) b f h = bytes-append (table n b f) (listOf b (f (suc n))) (bytes-table n b f h) (row b)
@@ -180,9 +182,12 @@ zero-blocks b m = fun-ext by
     by zero = no-block b (zeroes m)
     by (suc j) = block-is b (zeroes m) (suc j) zeroBlock (omega arith) (λ p l. ap byteOf (zeroes-at m ((suc j - 1) * b + p))) (λ p l. refl)
 
----- one block put
+---- one block of n, read and put
 
--- block i of n becomes v
+pub length-block : (b n i : ℕ) (t : List ℕ) → 1 ≤ i → i ≤ n → length t ≡ n * b → length (block b i t) ≡ b
+length-block b n i t i1 in-n lt = part-length ((i - 1) * b) b t (rw lt (block-fits i n b i1 in-n))
+
+-- block i becomes v
 module _ (b n i : ℕ) (v t : List ℕ) (i1 : 1 ≤ i) (in-n : i ≤ n) (lt : length t ≡ n * b) (lv : length v ≡ b) where
   put-fits : (i - 1) * b + b ≤ length t
   put-fits = rw lt (block-fits i n b i1 in-n)
@@ -203,10 +208,6 @@ module _ (b n i : ℕ) (v t : List ℕ) (i1 : 1 ≤ i) (in-n : i ≤ n) (lt : le
           ∙ ap (view b) (block-other b (suc j) i v t j1 i1 put-fits lv (λ e. d (sym e)))
           ∙ sym (block-view b t (suc j) j1)
 
--- block i of n
-pub length-block : (b n i : ℕ) (t : List ℕ) → 1 ≤ i → i ≤ n → length t ≡ n * b → length (block b i t) ≡ b
-length-block b n i t i1 in-n lt = part-length ((i - 1) * b) b t (rw lt (block-fits i n b i1 in-n))
-
 ---- differences and multiples
 
 pub length-difference : (v o : List ℕ) → length (difference v o) ≡ length v
@@ -215,6 +216,7 @@ length-difference = zip-length bitXor
 pub length-add : (c : ℕ) (s d : List ℕ) → length (addTimes c s d) ≡ length s
 length-add c = zip-length (λ x y. bitXor x (product c y))
 
+-- a function of bytes at each place, that goes by low bytes
 view-zip : (b : ℕ) (f : ℕ → ℕ → ℕ) (u v : List ℕ) → length u ≡ b → length v ≡ b → f 0 0 ≡ 0
     → ((x y : ℕ) → byteOf (f (byteOf x .val) (byteOf y .val)) ≡ byteOf (f x y))
     → view b (zip f u v) ≡ (λ p. byteOf (f (view b u p .val) (view b v p .val)))

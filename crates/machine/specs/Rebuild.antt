@@ -226,8 +226,7 @@ settleIn z c NoRebuild w = refused OutOfPhase w
 settleIn z c (Locking old) w = refused OutOfPhase w
 settleIn z c (Picking t) w = refused OutOfPhase w
 settleIn z c (Writing x set e) w = refused OutOfPhase w
-settleIn z c (Settling j e) w =
-    holding (everyOf (heldBy c) (w .nodes)) c w
+settleIn z c (Settling j e) w = holding (everyOf (heldBy c) (w .nodes)) c w
     (answered (cond (leb (z .n) j) Rebuilt Accepted)
     (advanced (setAt (w .nodes) j (settled e (nodeAt (w .nodes) j))) (cond (leb (z .n) j) (Unlocking 1) (Settling (j + 1) e)) w))
 settleIn z c (Unlocking x) w = refused OutOfPhase w
