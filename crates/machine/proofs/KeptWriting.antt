@@ -148,8 +148,8 @@ module _ (z : Sizes) (L : Laws (ops z)) (h : Ledger Block) (s : Stripe) (g : Goo
         let (norm, unl) = and-both (Node.isNorm (C .op i)) (Node.isUnl (nodeOf i .lmode)) free in
         record {
           good = rw seen (swap-good (ops z) L h C c i (view (z .b) value) g (record { low = i1; high = ik }) norm (rw (unl-is (nodeOf i)) at unl));
-          fits = put-fits i c (Writing.swapped z c i value (atNode i c s)) (put-sized (z .b) (z .n) i (s .blocks) blocks-sized node value Y)
-              (put-sized (z .b) (z .m) c (s .differences) differences-sized client (difference value old) D);
+          fits = put-fits i c (Writing.swapped z c i value (atNode i c s)) (put-sized (z .b) (z .n) i (s .blocks) blocks-sized node value value-sized)
+              (put-sized (z .b) (z .m) c (s .differences) differences-sized client (difference value old) difference-sized);
         }
       where
         node : Within (z .n) i
@@ -158,14 +158,14 @@ module _ (z : Sizes) (L : Laws (ops z)) (h : Ledger Block) (s : Stripe) (g : Goo
         old : List ℕ
         old = block (z .b) i (s .blocks)
 
-        Y : Sized (z .b) value
-        Y = record { many = len; bytes = bytes }
+        value-sized : Sized (z .b) value
+        value-sized = record { many = len; bytes = bytes }
 
-        O : Sized (z .b) old
-        O = block-sized (z .b) (z .n) i (s .blocks) blocks-sized node
+        old-sized : Sized (z .b) old
+        old-sized = block-sized (z .b) (z .n) i (s .blocks) blocks-sized node
 
-        D : Sized (z .b) (difference value old)
-        D = record { many = length-difference value old ∙ len; bytes = bytes-difference value old bytes (O .bytes) }
+        difference-sized : Sized (z .b) (difference value old)
+        difference-sized = record { many = length-difference value old ∙ len; bytes = bytes-difference value old bytes (old-sized .bytes) }
 
         seen : columns z (putNode i c (Writing.swapped z c i value (atNode i c s)) s) ≡ swapped (ops z) C c i (view (z .b) value)
         seen =
@@ -174,9 +174,9 @@ module _ (z : Sizes) (L : Laws (ops z)) (h : Ledger Block) (s : Stripe) (g : Goo
             ∙ rw (
               upd-keep (C .finished) c,
               add-one (C .next c),
-              put-seen (z .b) (z .n) i (s .blocks) blocks-sized node value Y,
-              put-seen (z .b) (z .m) c (s .differences) differences-sized client (difference value old) D,
-              view-difference z value old len (O .many),
+              put-seen (z .b) (z .n) i (s .blocks) blocks-sized node value value-sized,
+              put-seen (z .b) (z .m) c (s .differences) differences-sized client (difference value old) difference-sized,
+              view-difference z value old len (old-sized .many),
               block-view (z .b) (s .blocks) i i1,
             )
 
@@ -209,14 +209,14 @@ module _ (z : Sizes) (L : Laws (ops z)) (h : Ledger Block) (s : Stripe) (g : Goo
       abbrev change : List ℕ
       change = block (z .b) c (s .differences)
 
-      O : Sized (z .b) old
-      O = block-sized (z .b) (z .n) j (s .blocks) blocks-sized node
+      old-sized : Sized (z .b) old
+      old-sized = block-sized (z .b) (z .n) j (s .blocks) blocks-sized node
 
-      D : Sized (z .b) change
-      D = block-sized (z .b) (z .m) c (s .differences) differences-sized client
+      change-sized : Sized (z .b) change
+      change-sized = block-sized (z .b) (z .m) c (s .differences) differences-sized client
 
-      S : Sized (z .b) (addTimes factor old change)
-      S = record { many = length-add factor old change ∙ O .many; bytes = bytes-add factor old change (O .bytes) (D .bytes) }
+      sum-sized : Sized (z .b) (addTimes factor old change)
+      sum-sized = record { many = length-add factor old change ∙ old-sized .many; bytes = bytes-add factor old change (old-sized .bytes) (change-sized .bytes) }
 
       -- y is the client's record then
       add-seen : (y : Client) → y .rebuild ≡ C .phase c → y .next .0 ≡ C .next c →
@@ -227,8 +227,8 @@ module _ (z : Sizes) (L : Laws (ops z)) (h : Ledger Block) (s : Stripe) (g : Goo
           ∙ rw (
             next,
             upd-keep (C .next) c,
-            put-seen (z .b) (z .n) j (s .blocks) blocks-sized node (addTimes factor old change) S,
-            view-add z j (w .id .position) old change (O .many) (D .many),
+            put-seen (z .b) (z .n) j (s .blocks) blocks-sized node (addTimes factor old change) sum-sized,
+            view-add z j (w .id .position) old change (old-sized .many) (change-sized .many),
             block-view (z .b) (s .blocks) j (node .0),
             block-view (z .b) (s .differences) c (client .0),
           )
@@ -236,7 +236,7 @@ module _ (z : Sizes) (L : Laws (ops z)) (h : Ledger Block) (s : Stripe) (g : Goo
       add-fits : (y : Client) → Fits z (putNode j c (Writing.addedTo z c j w y (atNode j c s)) s)
       add-fits y =
           put-fits j c (Writing.addedTo z c j w y (atNode j c s))
-          (put-sized (z .b) (z .n) j (s .blocks) blocks-sized node (addTimes factor old change) S) differences-sized
+          (put-sized (z .b) (z .n) j (s .blocks) blocks-sized node (addTimes factor old change) sum-sized) differences-sized
 
       complete : Writing.isComplete z (w .id .position) (including j (w .done)) ≡ true → (m : ℕ) → z .k < m → m ≤ z .n → has (including j (w .done)) m ≡ true
       complete e m a b =
@@ -398,11 +398,11 @@ module _ (z : Sizes) (L : Laws (ops z)) (h : Ledger Block) (s : Stripe) (g : Goo
     fail-accepted node len =
         record {
           good = rw seen (fail-good (ops z) L h C j (view (z .b) value) g);
-          fits = put-fits j 0 fallen (put-sized (z .b) (z .n) j (s .blocks) blocks-sized node value Y) differences-sized;
+          fits = put-fits j 0 fallen (put-sized (z .b) (z .n) j (s .blocks) blocks-sized node value value-sized) differences-sized;
         }
       where
-        Y : Sized (z .b) value
-        Y = record { many = len; bytes = bytes }
+        value-sized : Sized (z .b) value
+        value-sized = record { many = len; bytes = bytes }
 
         tables : Stripe
         tables = withTables (fallen .blocks) (s .differences)
@@ -411,7 +411,7 @@ module _ (z : Sizes) (L : Laws (ops z)) (h : Ledger Block) (s : Stripe) (g : Goo
         seen =
             ap (λ l. columns z (withClients (withNodes tables (setAt (s .nodes) j failedNode)) l)) (set-same (λ (y : Client). y) freshClient (s .clients) 0)
             ∙ put-node z tables j failedNode (node .0) (rw (f .nodes) (node .1))
-            ∙ rw (put-seen (z .b) (z .n) j (s .blocks) blocks-sized node value Y)
+            ∙ rw (put-seen (z .b) (z .n) j (s .blocks) blocks-sized node value value-sized)
 
     pub fail-kept : Kept z h fail (step z fail s)
     unfolding step Writing.fail
