@@ -20,7 +20,8 @@ NORM, RECONS, INIT = "NORM", "RECONS", "INIT"
 # lmode
 UNL, L0, L1, EXP = "UNL", "L0", "L1", "EXP"
 # phases of a rebuild
-LOCKING, PICKING, WRITING, SETTLING, UNLOCKING = "lock", "pick", "write", "settle", "unlock"
+LOCKING, PICKING = "lock", "pick"
+WRITING, SETTLING, UNLOCKING = "write", "settle", "unlock"
 
 MAX_WRITES = 1_000_000
 MAX_EPOCH = 1_000_000
@@ -34,7 +35,11 @@ class Sizes(NamedTuple):
     m: int  # clients
 
     def permitted(self):
-        return code.permitted(self.k, self.n, self.B) and 0 <= self.td <= self.n - self.k and 1 <= self.m <= 8
+        return (
+            code.permitted(self.k, self.n, self.B)
+            and 0 <= self.td <= self.n - self.k
+            and 1 <= self.m <= 8
+        )
 
 
 # ---------------------------------------------------------------- records
@@ -75,12 +80,13 @@ class Node:
         return self.opmode == NORM and self.lmode in (UNL, L0)
 
     def held_by(self, c):
-        """"Held by c" means lmode L0 or L1 with holder c."""
+        """Held by c: lmode L0 or L1 with holder c."""
         return self.lmode in (L0, L1) and self.holder == c
 
     def is_due(self):
         """A node is due if INIT or if a recent entry has age 64 or more."""
-        return self.opmode == INIT or any(e.recent and e.age >= self.DUE_AGE for e in self.entries)
+        aged = any(e.recent and e.age >= self.DUE_AGE for e in self.entries)
+        return self.opmode == INIT or aged
 
     def lists(self, id):
         return any(e.id == id for e in self.entries)
@@ -380,7 +386,9 @@ class Stripe:
         if not self.is_client(c):
             return Answer(2)
         client = self.clients[c]
-        if not client.in_phase(PICKING) or client.rebuild.untightened or self.with_opmode(RECONS):
+        if not client.in_phase(PICKING) or client.rebuild.untightened:
+            return Answer(3)
+        if self.with_opmode(RECONS):
             return Answer(3)
         if not self.holds_all(c):
             return self.lose(c)
@@ -522,9 +530,12 @@ class Stripe:
             return False
         data = [i for i in members if self.is_position(i)]
         redundant = [j for j in members if self.is_redundant(j)]
-        return all(self.f(j) == self.f(r) for j in redundant for r in redundant) and all(
-            self.f(i) == of_position(self.f(j), i) for i in data for j in redundant
-        )
+        equal = all(self.f(j) == self.f(r) for j in redundant for r in redundant)
+        return equal and all(self.f(i) == of_position(self.f(j), i) for i in data for j in redundant)
+
+    def expected_f(self, j, ids):
+        """The f of a node j that agrees with a redundant node whose f is ids."""
+        return ids if self.is_redundant(j) else of_position(ids, j)
 
     def largest_consistent_set(self):
         """The largest consistent set, on a tie the all-data set, then the one
@@ -538,7 +549,7 @@ class Stripe:
         f = {j: self.f(j) for j in norm}
         largest = {i for i in norm if self.is_position(i)}
         for r in sorted(j for j in norm if self.is_redundant(j)):
-            agreeing = {j for j in norm if f[j] == (f[r] if self.is_redundant(j) else of_position(f[r], j))}
+            agreeing = {j for j in norm if f[j] == self.expected_f(j, f[r])}
             if len(agreeing) > len(largest):
                 largest = agreeing
         return largest
