@@ -11,9 +11,9 @@ from dataclasses import dataclass
 from typing import NamedTuple, Optional
 
 import code
+import field
 from answers import ACCEPTED, Answer
 from code import block, coefficient, put_block
-from field import add, scale
 
 # opmode
 NORM, RECONS, INIT = "NORM", "RECONS", "INIT"
@@ -226,6 +226,7 @@ class Stripe:
     # ------------------------------------------------------------ writing
 
     def read(self, i):
+        """Shows block i."""
         if not self.is_position(i):
             return Answer(2)
         node = self.nodes[i]
@@ -234,6 +235,7 @@ class Stripe:
         return Answer(0, self.block(i))
 
     def swap(self, c, i, value):
+        """Difference = value XOR old block; previous id = last recent id there."""
         if len(value) != self.sizes.B:
             return Answer(1)
         if not self.is_client(c) or not self.is_position(i):
@@ -250,12 +252,13 @@ class Stripe:
         id = WriteId(c, i, client.next_number)
         client.next_number += 1
         client.hand = Hand(i, id, node.last_recent_id(), node.epoch, {i})
-        self.put_difference(c, add(value, self.block(i)))
+        self.put_difference(c, field.add(value, self.block(i)))
         self.put_block(i, value)
         node.enter(id)
         return ACCEPTED
 
     def add(self, c, j):
+        """c(j,i) times the difference is added and the id entered; j joins done."""
         if not self.is_client(c) or not self.is_redundant(j):
             return Answer(2)
         client, node = self.clients[c], self.nodes[j]
@@ -270,8 +273,8 @@ class Stripe:
             return Answer(6, hand.previous)
         if node.is_full():
             return Answer(7)
-        multiple = scale(coefficient(j, hand.position), self.difference(c))
-        self.put_block(j, add(self.block(j), multiple))
+        multiple = field.scale(coefficient(j, hand.position), self.difference(c))
+        self.put_block(j, field.add(self.block(j), multiple))
         node.enter(hand.id)
         hand.done.add(j)
         if not hand.done.issuperset({hand.position, *self.redundant_nodes()}):
@@ -281,6 +284,7 @@ class Stripe:
         return Answer(0, "Done")
 
     def check(self, c, j):
+        """Whether node j still lists c's write, and the one before it, as recent."""
         if not self.is_client(c) or not self.is_node(j):
             return Answer(2)
         hand = self.clients[c].hand
@@ -296,6 +300,7 @@ class Stripe:
         return Answer(0, "NoChange")
 
     def drop(self, c):
+        """The write leaves the hand."""
         if not self.is_client(c):
             return Answer(2)
         client = self.clients[c]
@@ -305,6 +310,7 @@ class Stripe:
         return ACCEPTED
 
     def sweep(self, c):
+        """One node of a round: nodes 1 to n discarding, then 1 to n marking."""
         if not self.is_client(c):
             return Answer(2)
         client, n = self.clients[c], self.sizes.n
@@ -313,7 +319,6 @@ class Stripe:
         node = self.nodes[client.sweeps % n + 1]
         if not node.is_free():
             return modes_not_met(node)
-        # A round goes over nodes 1 to n discarding, then over 1 to n marking.
         if client.sweeps < n:
             node.discard(client.moved)
         else:
@@ -325,6 +330,7 @@ class Stripe:
         return ACCEPTED
 
     def stop(self, c):
+        """All that c held becomes EXP; its record is fresh but for the number."""
         if not self.is_client(c):
             return Answer(2)
         self.expire_held(c)
@@ -333,6 +339,7 @@ class Stripe:
         return ACCEPTED
 
     def fail(self, j, value):
+        """The block becomes the bytes given; INIT, and the rest as fresh."""
         if len(value) != self.sizes.B:
             return Answer(1)
         if not self.is_node(j):
@@ -344,6 +351,7 @@ class Stripe:
     # ------------------------------------------------------------ rebuild
 
     def lock(self, c):
+        """The next node goes from UNL or EXP to L1; its old lmode is remembered."""
         if not self.is_client(c):
             return Answer(2)
         client = self.clients[c]
@@ -361,6 +369,7 @@ class Stripe:
         return ACCEPTED
 
     def pick(self, c):
+        """The spare becomes the codeword decoded from the set; E = largest epoch."""
         if not self.is_client(c):
             return Answer(2)
         client = self.clients[c]
@@ -383,6 +392,7 @@ class Stripe:
         return Answer(0, (sorted(chosen), E))
 
     def weaken(self, c):
+        """Redundant nodes go to L0: they accept adds, for more nodes to agree."""
         if not self.is_client(c):
             return Answer(2)
         client = self.clients[c]
@@ -398,6 +408,7 @@ class Stripe:
         return ACCEPTED
 
     def tighten(self, c):
+        """The lowest redundant node not tightened since the weaken goes to L1."""
         if not self.is_client(c):
             return Answer(2)
         client = self.clients[c]
@@ -411,6 +422,7 @@ class Stripe:
         return ACCEPTED
 
     def write(self, c):
+        """The next node: block from the spare, RECONS, epoch E, rset = the set."""
         if not self.is_client(c):
             return Answer(2)
         client = self.clients[c]
@@ -429,6 +441,7 @@ class Stripe:
         return ACCEPTED
 
     def settle(self, c):
+        """The next node: epoch E+1, entries and rset cleared, NORM, still held."""
         if not self.is_client(c):
             return Answer(2)
         client = self.clients[c]
@@ -448,6 +461,7 @@ class Stripe:
         return Answer(0, "rebuilt") if rebuild.phase == UNLOCKING else ACCEPTED
 
     def unlock(self, c):
+        """The next node goes to UNL; the nth ends the rebuild."""
         if not self.is_client(c):
             return Answer(2)
         client = self.clients[c]
