@@ -32,3 +32,5 @@ pub mod Told
 pub mod Limits
 pub mod Largest
 pub mod Examples
+pub mod KeptFinish
+pub mod Theorem
