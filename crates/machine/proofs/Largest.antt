@@ -58,7 +58,7 @@ module _ (a b : List WriteId) where
   same-ids : SameSet a b → sameIds a b ≡ true
   same-ids same = rw (every-of (λ x. isIn x b) a (λ x m. sym (same x) ∙ m)) (every-of (λ x. isIn x a) b (λ x m. same x ∙ m))
 
-in-position : (i : ℕ) (x : WriteId) (ids : List WriteId) → isIn x (atPosition i ids) ≡ (eqb (x .position) i && isIn x ids)
+pub in-position : (i : ℕ) (x : WriteId) (ids : List WriteId) → isIn x (atPosition i ids) ≡ (eqb (x .position) i && isIn x ids)
 unfolding isIn atPosition
 in-position i x [] = sym (and-false (eqb (x .position) i))
 in-position i x (y ∷ ids) =
@@ -153,7 +153,7 @@ lowest-below {P} dec (suc m) = by (lowest-below dec m) (dec m)
     by (inr above) (yes p) = inl (m, record { holds = p; least = above })
     by (inr above) (no n) = inr (λ r p. next n r p (eq-or-lt-of-le (above r p)))
 
-abbrev Place : Sizes → NodeSet → Type 0
+abbrev pub Place : Sizes → NodeSet → Type 0
 Place z set = AllData z set ⊎ ((r : ℕ) × Lowest (Redundant z set) r)
 
 module _ (z : Sizes) (set : NodeSet) where
@@ -165,7 +165,7 @@ module _ (z : Sizes) (set : NodeSet) where
       by (inl m) (no n) = no (λ R. n (R .beyond))
       by (inr out) d = no (λ R. clash (R .member) out)
 
-  place : Place z set
+  pub place : Place z set
   place = by (lowest-below redundant? (suc (length set)))
     where
       at : (j : ℕ) → has set j ≡ true → (Redundant z set j → length set < j) → Dec (z .k < j) → j ≤ z .k

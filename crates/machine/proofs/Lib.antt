@@ -11,6 +11,12 @@ pub mod Add
 pub mod Hands
 pub mod Sweep
 pub mod Fail
+pub mod Phases
+pub mod Locks
+pub mod Progress
+pub mod Pick
+pub mod Write
+pub mod Settle
 pub mod Start
 pub mod Bytes
 pub mod View
@@ -19,7 +25,12 @@ pub mod Tables
 pub mod CodeLaws
 pub mod KeptStart
 pub mod KeptWriting
+pub mod Elements
+pub mod Candidates
+pub mod KeptRebuild
 pub mod Told
 pub mod Limits
 pub mod Largest
 pub mod Examples
+pub mod KeptFinish
+pub mod Theorem
