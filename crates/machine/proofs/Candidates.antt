@@ -1,9 +1,9 @@
 -- The set that a pick finds in the node records is one that it may take: its members stand at one cut (Pick). Assumes nothing.
 use mathlib.Core.Path.{_≡_, refl, sym, _∙_}
 use mathlib.Core.Logic.{_⊎_, inl, inr}
-use mathlib.Core.Bool.{Bool, true, false, cond, _&&_, _||_, not}
+use mathlib.Core.Bool.{true, false, _&&_, not}
 use mathlib.Core.List.{List, [], _∷_}
-use Prim.Native.Nat.{ℕ, _-_, _≤_, _<_}
+use Prim.Native.Nat.{ℕ, _-_, _≤_}
 use native.Mathlib.Decide.{decLe}
 use native.Mathlib.Omega.{arith}
 use lib.Dec.{eqb}
@@ -16,8 +16,8 @@ use Rattle.records.specs.declared.Entry.{Entry}
 use Rattle.records.specs.declared.WriteId.{WriteId}
 use Rattle.records.specs.Entries.{sameId, isRecent, isIn, isRecentIn, isOldIn}
 use Rattle.records.specs.Node.{Node, failedNode, isNorm, isRecons, isInit}
-use Rattle.machine.specs.Stripe.{Stripe, nodeAt, someOf}
-use Rattle.machine.specs.Rebuild.{oldSomewhere, recentIds, f, atPosition, largest, someRecons, pickedSet}
+use Rattle.machine.specs.Stripe.{Stripe, someOf}
+use Rattle.machine.specs.Rebuild.{oldSomewhere, recentIds, f, largest, someRecons, pickedSet}
 use Rattle.machine.specs.Rebuild as Rebuild
 use Rattle.machine.specs.Consistent as Document
 use Rattle.machine.proofs.Base.{clash, is-false, and-both, or-one, or-left, or-right, cond-ind}

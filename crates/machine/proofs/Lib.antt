@@ -27,6 +27,7 @@ pub mod KeptStart
 pub mod KeptWriting
 pub mod Elements
 pub mod Candidates
+pub mod Relocks
 pub mod KeptRebuild
 pub mod Told
 pub mod Limits

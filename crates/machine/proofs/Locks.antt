@@ -6,14 +6,14 @@ use mathlib.Core.Option.{none, some}
 use mathlib.Core.List.{List, [], _∷_, _++_}
 use Prim.Native.Nat.{ℕ, zero, suc, _+_, _≤_, _<_}
 use native.Mathlib.Omega.{arith}
-use lib.Dec.{eqb, leb, ltb}
+use lib.Dec.{leb, ltb}
 use lib.ListN.{length, getD, length-append}
 use borrow.Author.Tests.{leb-true, leb-false, ltb-true, eq-eqb, le-ltb, le-leb}
 use Rattle.records.specs.declared.Lmode.{Lmode}
 use Rattle.records.specs.declared.Lmode.the-variants as Lmode
 use Rattle.records.specs.Node.{isInit, isRecons}
 use Rattle.records.specs.Node as Node
-use Rattle.records.specs.Client.{Write, Rebuild, NoRebuild, Locking, Picking, Writing, Settling, Unlocking}
+use Rattle.records.specs.Client.{Write, Rebuild, NoRebuild, Locking, Picking, Unlocking}
 use Rattle.machine.proofs.Base.{upd, upd-ind, clash, is-false, not-some, and-both, cond-ind}
 use Rattle.machine.proofs.EntryLaws.{in-nil}
 use Rattle.machine.proofs.Columns.{Ops, Lock, Unl, Exp, L0, L1, isUnl, isExp, isL0, isLocked, heldBy, Columns, setLocks, setPhases, setHands, setFinished}
@@ -86,44 +86,69 @@ module _ (O : Ops) where
     pub unl : G .begun ≡ true → isInit (s .op j) ≡ false → isUnl l ≡ false
     pub weak : (r : ℕ) → isRecons (s .op r) ≡ true → isL0 l ≡ false
 
-  module _ {G : Ghost} {h : Ledger B} {s : Columns B} (I : Inv O G h s) (c : ℕ) where
-    pub relock : (lock' : ℕ → Lock) (p : Rebuild) → ((j : ℕ) → (lock' j ≡ s .lock j) ⊎ Relocked G s c j (lock' j)) →
-        ((j : ℕ) → IsNode O j → PhaseOk O G c p j (s .op j) (lock' j) (s .epoch j)) → writes p ≡ false → Inv O G h (relocked c lock' p s)
-    relock lock' p change mine quiet =
+  module _ (h : Ledger B) (s : Columns B) (g : Good O h s) (c : ℕ) where
+    abbrev G : Ghost
+    G = g .ghost
+
+    abbrev I : Inv O G h s
+    I = g .inv
+
+    -- it stays, or changes so
+    abbrev May : ℕ → Lock → Type 0
+    May j l = (l ≡ s .lock j) ⊎ Relocked G s c j l
+
+    abbrev PhaseWith : (ℕ → Lock) → Rebuild → ℕ → Type 0
+    PhaseWith lock' p j = PhaseOk O G c p j (s .op j) (lock' j) (s .epoch j)
+
+    pub relock : (lock' : ℕ → Lock) (p : Rebuild) → ((j : ℕ) → May j (lock' j)) → ((j : ℕ) → IsNode O j → PhaseWith lock' p j) → writes p ≡ false → Good O h (relocked c lock' p s)
+    relock lock' p may mine quiet =
         record {
-          ids = I .ids;
-          node = I .node;
-          pair = I .pair;
-          hand = I .hand;
-          finished = I .finished;
-          unl = λ e j i. unl e j i (change j);
-          weak = λ r j e i. weak r j e i (change j);
-          phase = upd-ind (λ d q. (j : ℕ) → IsNode O j → PhaseOk O G d q j (s .op j) (lock' j) (s .epoch j)) (s .phase) c p mine (λ d ne j b. others d ne j b (change j));
-          rebuild = upd-ind (λ d q. RebuildOk O G h (s .spare) d q) (s .phase) c p (rebuild-quiet O G h (s .spare) c p quiet) (λ d e. I .rebuild d);
-          one = λ d e a b. I .one d e (was d a) (was e b);
+          ghost = G;
+          inv = record {
+            ids = I .ids;
+            node = I .node;
+            pair = I .pair;
+            hand = I .hand;
+            finished = I .finished;
+            unl = λ e j i. unl e j i (may j);
+            weak = λ r j e i. weak r j e i (may j);
+            phase = upd-ind (λ d q. (j : ℕ) → IsNode O j → PhaseOk O G d q j (s .op j) (lock' j) (s .epoch j)) (s .phase) c p mine (λ d ne j b. others d ne j b (may j));
+            rebuild = upd-ind (RebuildOk O G h (s .spare)) (s .phase) c p (rebuild-quiet O G h (s .spare) c p quiet) (λ d ne. I .rebuild d);
+            one = λ d e a b. I .one d e (was d a) (was e b);
+          };
         }
       where
-        unl : G .begun ≡ true → (j : ℕ) → isInit (s .op j) ≡ false → (lock' j ≡ s .lock j) ⊎ Relocked G s c j (lock' j) → isUnl (lock' j) ≡ false
-        unl e j i (inl q) = ap isUnl q ∙ I .unl e j i
+        unl : G .begun ≡ true → (j : ℕ) → isInit (s .op j) ≡ false → May j (lock' j) → isUnl (lock' j) ≡ false
+        unl e j i (inl q) = rw q (I .unl e j i)
         unl e j i (inr R) = R .unl e i
 
-        weak : (r j : ℕ) → isRecons (s .op r) ≡ true → isInit (s .op j) ≡ false → (lock' j ≡ s .lock j) ⊎ Relocked G s c j (lock' j) → isL0 (lock' j) ≡ false
-        weak r j e i (inl q) = ap isL0 q ∙ I .weak r j e i
+        weak : (r j : ℕ) → isRecons (s .op r) ≡ true → isInit (s .op j) ≡ false → May j (lock' j) → isL0 (lock' j) ≡ false
+        weak r j e i (inl q) = rw q (I .weak r j e i)
         weak r j e i (inr R) = R .weak r e
 
-        others : (d : ℕ) → c ≢ d → (j : ℕ) → IsNode O j → (lock' j ≡ s .lock j) ⊎ Relocked G s c j (lock' j) → PhaseOk O G d (s .phase d) j (s .op j) (lock' j) (s .epoch j)
-        others d ne j b (inl q) = subst (λ l. PhaseOk O G d (s .phase d) j (s .op j) l (s .epoch j)) (sym q) (I .phase d j b)
-        others d ne j b (inr R) = phase-unheld O G d j (s .phase d) (s .op j) (s .lock j) (lock' j) (s .epoch j) (R .before d ne) (R .after d ne) (I .phase d j b)
+        others : (d : ℕ) → c ≢ d → (j : ℕ) → IsNode O j → May j (lock' j) → PhaseOk O G d (s .phase d) j (s .op j) (lock' j) (s .epoch j)
+        others d ne j b (inl q) = rw q (I .phase d j b)
+        others d ne j b (inr R) =
+            phase-unheld O G d j (s .phase d) (s .op j) (s .lock j) (lock' j) (s .epoch j) (R .before d ne) (R .after d ne) (I .phase d j b)
 
         was : (d : ℕ) → writes (upd (s .phase) c p d) ≡ true → writes (s .phase d) ≡ true
-        was = upd-ind (λ d q. writes q ≡ true → writes (s .phase d) ≡ true) (s .phase) c p (λ w. clash w quiet) (λ d e w. w)
+        was = upd-ind (λ d q. writes q ≡ true → writes (s .phase d) ≡ true) (s .phase) c p (λ w. clash w quiet) (λ d ne w. w)
+
+    ---- changes that may be
+    -- of one lock; of those that pass a test
+    one-lock : (x : ℕ) (l : Lock) → Relocked G s c x l → (j : ℕ) → May j (upd (s .lock) x l j)
+    one-lock x l R = upd-ind May (s .lock) x l (inr R) (λ j ne. inl refl)
+
+    if-locked : (test : Bool) (j : ℕ) (l : Lock) → (test ≡ true → Relocked G s c j l) → May j (cond test l (s .lock j))
+    if-locked test j l R = cond-ind (May j) test l (s .lock j) (λ e. inr (R e)) (λ e. inl refl)
 
     -- nobody's lock, or c's, becomes c's at L1
     taken : (j : ℕ) → ((d : ℕ) → c ≢ d → heldBy d (s .lock j) ≡ false) → Relocked G s c j (L1 c)
     taken j f = record { before = f; after = λ d ne. not-other c d (L1 c) ne (held-l1 c); unl = λ e i. refl; weak = λ r e. refl }
 
     -- c's lock becomes one that nobody holds; UNL only if no rebuild is under way
-    released : (j : ℕ) (l : Lock) → heldBy c (s .lock j) ≡ true → isLocked l ≡ false → (G .begun ≡ true → isInit (s .op j) ≡ false → isUnl l ≡ false) → Relocked G s c j l
+    released : (j : ℕ) (l : Lock) → heldBy c (s .lock j) ≡ true → isLocked l ≡ false → (G .begun ≡ true → isInit (s .op j) ≡ false → isUnl l ≡ false) →
+        Relocked G s c j l
     released j l held free unl =
         record { before = λ d ne. not-other c d (s .lock j) ne held; after = λ d ne. unheld d l free; unl = unl; weak = λ r e. not-l0 l free }
       where
@@ -133,26 +158,30 @@ module _ (O : Ops) where
         not-l0 (L0 x) f = clash refl f
         not-l0 (L1 x) f = refl
 
-    lost-inv : Inv O G h (lost c s)
-    lost-inv =
-        relock (λ j. expired c (s .lock j)) NoRebuild
-        (λ j. cond-ind (λ l. (l ≡ s .lock j) ⊎ Relocked G s c j l) (heldBy c (s .lock j)) Exp (s .lock j) (λ held. inr (released j Exp held refl (λ e i. refl))) (λ f. inl refl))
+    ---- Quit, Stop
+    pub lost-good : Good O h (lost c s)
+    lost-good =
+        relock (λ j. expired c (s .lock j)) NoRebuild (λ j. if-locked (heldBy c (s .lock j)) j Exp (λ held. released j Exp held refl (λ e i. refl)))
         (λ j b. cond-ind (λ l. heldBy c l ≡ false) (heldBy c (s .lock j)) Exp (s .lock j) (λ held. refl) (λ f. f)) refl
 
-    stopped-inv : Inv O G h (stopped c s)
-    stopped-inv =
+    pub stopped-good : Good O h (stopped c s)
+    stopped-good =
+        let J = lost-good .inv in
         record {
-          ids = I .ids;
-          node = I .node;
-          pair = I .pair;
-          hand = upd-ind (λ d a. (w : Write) → a ≡ some w → HandOk O G h (s .op) d (s .difference d) w) (s .hand) c none (λ w e. not-some e) (λ d ne w. I .hand d w);
-          finished = upd-ind (λ d l. FinishedOk O G h d (s .next d) l) (s .finished) c []
-              (record { done = λ x e. in-nil x e; client = λ x e. in-nil x e; number = λ x e. in-nil x e }) (λ d ne. I .finished d);
-          unl = lost-inv .unl;
-          weak = lost-inv .weak;
-          phase = lost-inv .phase;
-          rebuild = lost-inv .rebuild;
-          one = lost-inv .one;
+          ghost = G;
+          inv = record {
+            ids = I .ids;
+            node = I .node;
+            pair = I .pair;
+            hand = upd-ind (λ d a. (w : Write) → a ≡ some w → HandOk O G h (s .op) d (s .difference d) w) (s .hand) c none (λ w e. not-some e) (λ d ne. I .hand d);
+            finished = upd-ind (λ d l. FinishedOk O G h d (s .next d) l) (s .finished) c []
+                (record { done = λ x e. in-nil x e; client = λ x e. in-nil x e; number = λ x e. in-nil x e }) (λ d ne. I .finished d);
+            unl = J .unl;
+            weak = J .weak;
+            phase = J .phase;
+            rebuild = J .rebuild;
+            one = J .one;
+          };
         }
 
     ---- Lock
@@ -164,56 +193,69 @@ module _ (O : Ops) where
           go (inl p) = phase-is O I c p j b
           go (inr p) = let f = phase-is O I c (p .0) j b in record { before = λ t. clash t f; tight = λ t. clash t f; was = λ t. clash t f }
 
-      gaveBack-inv : Inv O G h (gaveBack c old s)
-      gaveBack-inv = relock (λ j. givenBack c old j (s .lock j)) NoRebuild change mine refl
+      pub gaveBack-good : Good O h (gaveBack c old s)
+      gaveBack-good =
+          relock (λ j. givenBack c old j (s .lock j)) NoRebuild
+          (λ j. if-locked (leb j (length old) && heldBy c (s .lock j)) j (was j) (λ e. back j (and-both (leb j (length old)) (heldBy c (s .lock j)) e .1))) mine refl
         where
           was : ℕ → Lock
           was j = cond (wasExp old j) Exp Unl
 
-          unlocked-was : (P : Lock → Type 0) (j : ℕ) → P Exp → P Unl → P (was j)
-          unlocked-was P j e u = cond-ind P (wasExp old j) Exp Unl (λ t. e) (λ t. u)
+          was-ind : (P : Lock → Type 0) (j : ℕ) → P Exp → P Unl → P (was j)
+          was-ind P j e u = cond-ind P (wasExp old j) Exp Unl (λ t. e) (λ t. u)
 
-          change : (j : ℕ) → (givenBack c old j (s .lock j) ≡ s .lock j) ⊎ Relocked G s c j (givenBack c old j (s .lock j))
-          change j =
-              cond-ind (λ l. (l ≡ s .lock j) ⊎ Relocked G s c j l) (leb j (length old) && heldBy c (s .lock j)) (was j) (s .lock j)
-              (λ e. let held = and-both (leb j (length old)) (heldBy c (s .lock j)) e .1 in
-              inr (released j (was j) held (unlocked-was (λ l. isLocked l ≡ false) j refl refl) (λ t i. rw (locking j (of-live O (I .node j .live i)) .was held t i)))) (λ f. inl refl)
+          back : (j : ℕ) → heldBy c (s .lock j) ≡ true → Relocked G s c j (was j)
+          back j held = released j (was j) held (was-ind (λ l. isLocked l ≡ false) j refl refl) (λ t i. rw (locking j (of-live O (I .node j .live i)) .was held t i))
 
           mine : (j : ℕ) → IsNode O j → heldBy c (givenBack c old j (s .lock j)) ≡ false
           mine j b =
-              cond-ind (λ l. heldBy c l ≡ false) (leb j (length old) && heldBy c (s .lock j)) (was j) (s .lock j) (λ e. unlocked-was (λ l. heldBy c l ≡ false) j refl refl)
+              cond-ind (λ l. heldBy c l ≡ false) (leb j (length old) && heldBy c (s .lock j)) (was j) (s .lock j) (λ e. was-ind (λ l. heldBy c l ≡ false) j refl refl)
               (λ f. is-false (heldBy c (s .lock j)) (λ q. let a = locking j b .before q in clash (rw (le-leb j (length old) (omega arith), q)) f))
 
       module _ (l : Lmode) (is-l : Node.isExp l ≡ isExp (s .lock (suc (length old)))) (free : isLocked (s .lock (suc (length old))) ≡ false) where
         abbrev x : ℕ
         x = suc (length old)
 
-        locking' : (j : ℕ) → IsNode O j → LockingOk O G c (suc (length (old ++ (l ∷ [])))) (wasExp (old ++ (l ∷ []))) j (s .op j) (upd (s .lock) x (L1 c) j)
+        abbrev old' : List Lmode
+        old' = old ++ (l ∷ [])
+
+        abbrev lock' : ℕ → Lock
+        lock' = upd (s .lock) x (L1 c)
+
+        -- a lock that is free and not UNL was EXP
+        was-exp : (l : Lock) → isLocked l ≡ false → isUnl l ≡ false → isExp l ≡ true
+        was-exp Unl p q = clash refl q
+        was-exp Exp p q = refl
+        was-exp (L0 d) p q = clash refl p
+        was-exp (L1 d) p q = clash refl p
+
+        locking' : (j : ℕ) → IsNode O j → LockingOk O G c (suc (length old')) (wasExp old') j (s .op j) (lock' j)
         unfolding wasExp
         locking' =
-            upd-ind (λ j t. IsNode O j → LockingOk O G c (suc (length (old ++ (l ∷ [])))) (wasExp (old ++ (l ∷ []))) j (s .op j) t) (s .lock) x (L1 c)
-            (λ b. record { before = λ q. omega (arith, length-append old (l ∷ [])); tight = λ q. refl; was = λ q e i. ap Node.isExp (snoc-last old l) ∙ is-l ∙ was-exp (s .lock x) free (I .unl e x i) })
-            (λ j ne b. record { before = λ q. let a = locking j b .before q in omega (arith, length-append old (l ∷ [])); tight = locking j b .tight; was = λ q e i. snoc-exp old l j (locking j b .was q e i) })
-          where
-            was-exp : (l : Lock) → isLocked l ≡ false → isUnl l ≡ false → isExp l ≡ true
-            was-exp Unl p q = clash refl q
-            was-exp Exp p q = refl
-            was-exp (L0 d) p q = clash refl p
-            was-exp (L1 d) p q = clash refl p
+            let longer = length-append old (l ∷ []) in
+            upd-ind (λ j t. IsNode O j → LockingOk O G c (suc (length old')) (wasExp old') j (s .op j) t) (s .lock) x (L1 c)
+            (λ b. record {
+              before = λ q. omega arith;
+              tight = λ q. refl;
+              was = λ q e i. ap Node.isExp (snoc-last old l) ∙ is-l ∙ was-exp (s .lock x) free (I .unl e x i);
+            })
+            (λ j ne b. let v = locking j b in
+            record { before = λ q. let a = v .before q in omega arith; tight = v .tight; was = λ q e i. snoc-exp old l j (v .was q e i) })
 
-        locked-inv : Inv O G h (locked c old l s)
-        locked-inv =
-            relock (upd (s .lock) x (L1 c)) (cond (leb n x) (Picking 0) (Locking (old ++ (l ∷ []))))
-            (upd-ind (λ j t. (t ≡ s .lock j) ⊎ Relocked G s c j t) (s .lock) x (L1 c) (inr (taken x (λ d ne. unheld d (s .lock x) free))) (λ j ne. inl refl))
-            (λ j b. cond-ind (λ p. PhaseOk O G c p j (s .op j) (upd (s .lock) x (L1 c) j) (s .epoch j)) (leb n x) (Picking 0) (Locking (old ++ (l ∷ []))) (λ e q t. locking' j b .tight q) (λ e. locking' j b))
-            (cond-ind (λ p. writes p ≡ false) (leb n x) (Picking 0) (Locking (old ++ (l ∷ []))) (λ e. refl) (λ e. refl))
+        pub locked-good : Good O h (locked c old l s)
+        locked-good =
+            let may = one-lock x (L1 c) (taken x (λ d ne. unheld d (s .lock x) free)) in
+            cond-ind (λ p. Good O h (relocked c lock' p s)) (leb n x) (Picking 0) (Locking old')
+            (λ e. relock lock' (Picking 0) may (λ j b q t. locking' j b .tight q) refl) (λ e. relock lock' (Locking old') may locking' refl)
 
     ---- Weaken, Tighten, Unlock
-    weakened-inv : s .phase c ≡ Picking 0 → ((j : ℕ) → IsNode O j → heldBy c (s .lock j) ≡ true) → ((j : ℕ) → isRecons (s .op j) ≡ false) → Inv O G h (weakened c s)
-    weakened-inv p held no-recons =
-        relock (λ j. cond (ltb k j && leb j n) (L0 c) (s .lock j)) (Picking (suc k))
-        (λ j. cond-ind (λ l. (l ≡ s .lock j) ⊎ Relocked G s c j l) (ltb k j && leb j n) (L0 c) (s .lock j) (λ e. inr (redundant j (and-both (ltb k j) (leb j n) e))) (λ f. inl refl)) mine refl
+    pub weakened-good : s .phase c ≡ Picking 0 → ((j : ℕ) → IsNode O j → heldBy c (s .lock j) ≡ true) → ((j : ℕ) → isRecons (s .op j) ≡ false) → Good O h (weakened c s)
+    weakened-good p held no-recons =
+        relock weak-lock (Picking (suc k)) (λ j. if-locked (ltb k j && leb j n) j (L0 c) (λ e. redundant j (and-both (ltb k j) (leb j n) e))) (λ j b q f. mine j b f) refl
       where
+        weak-lock : ℕ → Lock
+        weak-lock j = cond (ltb k j && leb j n) (L0 c) (s .lock j)
+
         redundant : (j : ℕ) → (ltb k j ≡ true) × (leb j n ≡ true) → Relocked G s c j (L0 c)
         redundant j e =
             record {
@@ -223,15 +265,16 @@ module _ (O : Ops) where
               weak = λ r t. clash t (no-recons r);
             }
 
-        mine : (j : ℕ) → IsNode O j → heldBy c (cond (ltb k j && leb j n) (L0 c) (s .lock j)) ≡ true → (suc k ≡ 0) ⊎ (j < suc k) → cond (ltb k j && leb j n) (L0 c) (s .lock j) ≡ L1 c
-        mine j b q (inl f) = absurd (omega arith)
-        mine j b q (inr f) = let data-node : ltb k j ≡ false = le-ltb k j (omega arith) in rw data-node (phase-is O I c p j b (held j b) (inl refl))
+        mine : (j : ℕ) → IsNode O j → (suc k ≡ 0) ⊎ (j < suc k) → weak-lock j ≡ L1 c
+        mine j b (inl f) = absurd (omega arith)
+        mine j b (inr f) = rw (le-ltb k j (omega arith)) (phase-is O I c p j b (held j b) (inl refl))
 
-    tightened-inv : (t : ℕ) → s .phase c ≡ Picking (suc t) → heldBy c (s .lock (suc t)) ≡ true → Inv O G h (tightened c (suc t) s)
-    tightened-inv t p held =
-        relock lock' (cond (leb n (suc t)) (Picking 0) (Picking (suc (suc t))))
-        (upd-ind (λ j l. (l ≡ s .lock j) ⊎ Relocked G s c j l) (s .lock) (suc t) (L1 c) (inr (taken (suc t) (λ d ne. not-other c d (s .lock (suc t)) ne held))) (λ j ne. inl refl)) mine
-        (cond-ind (λ p. writes p ≡ false) (leb n (suc t)) (Picking 0) (Picking (suc (suc t))) (λ e. refl) (λ e. refl))
+    pub tightened-good : (t : ℕ) → s .phase c ≡ Picking (suc t) → heldBy c (s .lock (suc t)) ≡ true → Good O h (tightened c (suc t) s)
+    tightened-good t p held =
+        let may = one-lock (suc t) (L1 c) (taken (suc t) (λ d ne. not-other c d (s .lock (suc t)) ne held)) in
+        cond-ind (λ q. Good O h (relocked c lock' q s)) (leb n (suc t)) (Picking 0) (Picking (suc (suc t)))
+        (λ e. relock lock' (Picking 0) may (λ j b q f. tight j b (omega (arith, leb-true n (suc t) e, b .high)) q) refl)
+        (λ e. relock lock' (Picking (suc (suc t))) may (λ j b q f. tight j b (less j f) q) refl)
       where
         lock' : ℕ → Lock
         lock' = upd (s .lock) (suc t) (L1 c)
@@ -241,55 +284,30 @@ module _ (O : Ops) where
             upd-ind (λ j l. IsNode O j → j < suc (suc t) → heldBy c l ≡ true → l ≡ L1 c) (s .lock) (suc t) (L1 c) (λ b a q. refl)
             (λ j ne b a q. phase-is O I c p j b q (inr (omega arith)))
 
-        mine : (j : ℕ) → IsNode O j → PhaseOk O G c (cond (leb n (suc t)) (Picking 0) (Picking (suc (suc t)))) j (s .op j) (lock' j) (s .epoch j)
-        mine j b =
-            cond-ind (λ p. PhaseOk O G c p j (s .op j) (lock' j) (s .epoch j)) (leb n (suc t)) (Picking 0) (Picking (suc (suc t)))
-            (λ e q f. tight j b (let a = leb-true n (suc t) e in omega arith) q) (λ e q f. tight j b (less f) q)
-          where
-            less : (suc (suc t) ≡ 0) ⊎ (j < suc (suc t)) → j < suc (suc t)
-            less (inl f) = omega arith
-            less (inr a) = a
+        less : (j : ℕ) → (suc (suc t) ≡ 0) ⊎ (j < suc (suc t)) → j < suc (suc t)
+        less j (inl f) = omega arith
+        less j (inr a) = a
 
-    unlocked-inv : (x : ℕ) → s .phase c ≡ Unlocking x → IsNode O x → heldBy c (s .lock x) ≡ true → Inv O G h (unlocked c x s)
-    unlocked-inv x p xn held =
-        relock (upd (s .lock) x Unl) (cond (leb n x) NoRebuild (Unlocking (suc x)))
-        (upd-ind (λ j l. (l ≡ s .lock j) ⊎ Relocked G s c j l) (s .lock) x Unl (inr (released x Unl held refl (λ t i. clash t (unlocking x xn .over held)))) (λ j ne. inl refl))
-        (λ j b. cond-ind (λ p. PhaseOk O G c p j (s .op j) (upd (s .lock) x Unl j) (s .epoch j)) (leb n x) NoRebuild (Unlocking (suc x)) (λ e. last (leb-true n x e) j b) (λ e. more (leb-false n x e) j b))
-        (cond-ind (λ p. writes p ≡ false) (leb n x) NoRebuild (Unlocking (suc x)) (λ e. refl) (λ e. refl))
+    pub unlocked-good : (x : ℕ) → s .phase c ≡ Unlocking x → IsNode O x → heldBy c (s .lock x) ≡ true → Good O h (unlocked c x s)
+    unlocked-good x p xn held =
+        let may = one-lock x Unl (released x Unl held refl (λ t i. clash t (unlocking x xn .over held))) in
+        cond-ind (λ q. Good O h (relocked c lock' q s)) (leb n x) NoRebuild (Unlocking (suc x))
+        (λ e. relock lock' NoRebuild may (last (leb-true n x e)) refl) (λ e. relock lock' (Unlocking (suc x)) may (more (leb-false n x e)) refl)
       where
+        lock' : ℕ → Lock
+        lock' = upd (s .lock) x Unl
+
         unlocking : (j : ℕ) → IsNode O j → UnlockingOk O G c x j (s .op j) (s .lock j)
         unlocking = phase-is O I c p
 
-        last : n ≤ x → (j : ℕ) → IsNode O j → heldBy c (upd (s .lock) x Unl j) ≡ false
+        last : n ≤ x → (j : ℕ) → IsNode O j → heldBy c (lock' j) ≡ false
         last a =
             upd-ind (λ j l. IsNode O j → heldBy c l ≡ false) (s .lock) x Unl (λ b. refl)
             (λ j ne b. is-false (heldBy c (s .lock j)) (λ q. let d = unlocking j b .ahead q in absurd (ne (omega arith))))
 
-        more : x < n → (j : ℕ) → IsNode O j → UnlockingOk O G c (suc x) j (s .op j) (upd (s .lock) x Unl j)
+        more : x < n → (j : ℕ) → IsNode O j → UnlockingOk O G c (suc x) j (s .op j) (lock' j)
         more a =
+            let within : IsNode O (suc x) = record { low = omega arith; high = a } in
             upd-ind (λ j l. IsNode O j → UnlockingOk O G c (suc x) j (s .op j) l) (s .lock) x Unl
-            (λ b. record { within = record { low = omega arith; high = a }; ahead = λ q. clash q refl; norm = λ q. clash q refl; over = λ q. clash q refl })
-            (λ j ne b. let v = unlocking j b in record { within = record { low = omega arith; high = a }; ahead = λ q. let d = v .ahead q in omega arith; norm = v .norm; over = v .over })
-
-  ---- the calls
-  module _ (h : Ledger B) (s : Columns B) (g : Good O h s) (c : ℕ) where
-    pub lost-good : Good O h (lost c s)
-    lost-good = record { ghost = _; inv = lost-inv (g .inv) c }
-
-    pub stopped-good : Good O h (stopped c s)
-    stopped-good = record { ghost = _; inv = stopped-inv (g .inv) c }
-
-    pub gaveBack-good : (old : List Lmode) → LocksNext (s .phase c) old → Good O h (gaveBack c old s)
-    gaveBack-good old next = record { ghost = _; inv = gaveBack-inv (g .inv) c old next }
-
-    pub locked-good : (old : List Lmode) → LocksNext (s .phase c) old → (l : Lmode) → Node.isExp l ≡ isExp (s .lock (suc (length old))) → isLocked (s .lock (suc (length old))) ≡ false → Good O h (locked c old l s)
-    locked-good old next l is-l free = record { ghost = _; inv = locked-inv (g .inv) c old next l is-l free }
-
-    pub weakened-good : s .phase c ≡ Picking 0 → ((j : ℕ) → IsNode O j → heldBy c (s .lock j) ≡ true) → ((j : ℕ) → isRecons (s .op j) ≡ false) → Good O h (weakened c s)
-    weakened-good p held no-recons = record { ghost = _; inv = weakened-inv (g .inv) c p held no-recons }
-
-    pub tightened-good : (t : ℕ) → s .phase c ≡ Picking (suc t) → heldBy c (s .lock (suc t)) ≡ true → Good O h (tightened c (suc t) s)
-    tightened-good t p held = record { ghost = _; inv = tightened-inv (g .inv) c t p held }
-
-    pub unlocked-good : (x : ℕ) → s .phase c ≡ Unlocking x → IsNode O x → heldBy c (s .lock x) ≡ true → Good O h (unlocked c x s)
-    unlocked-good x p xn held = record { ghost = _; inv = unlocked-inv (g .inv) c x p xn held }
+            (λ b. record { within = within; ahead = λ q. clash q refl; norm = λ q. clash q refl; over = λ q. clash q refl })
+            (λ j ne b. let v = unlocking j b in record { within = within; ahead = λ q. let d = v .ahead q in omega arith; norm = v .norm; over = v .over })

@@ -1,7 +1,7 @@
 -- The phases of the clients: what a client's own phase gives it, and what the other clients' need when it goes on. Assumes nothing.
 use mathlib.Core.Path.{_≡_, refl, sym, ap, _∙_}
 use mathlib.Core.Logic.{_≢_}
-use mathlib.Core.Bool.{Bool, true, false}
+use mathlib.Core.Bool.{true, false}
 use Prim.Native.Nat.{ℕ}
 use borrow.Author.Tests.{eqb-true, eq-eqb}
 use Rattle.records.specs.declared.Opmode.{Opmode}

@@ -12,14 +12,14 @@ use borrow.Author.Tests.{leb-true, leb-false}
 use Rattle.code.specs.Decode.{NodeSet, has, size, membersFrom}
 use Rattle.records.specs.declared.WriteId.{WriteId}
 use Rattle.records.specs.declared.Epoch.{Epoch}
-use Rattle.records.specs.Entries.{isListed, isRecentIn, isOldIn}
+use Rattle.records.specs.Entries.{isRecentIn, isOldIn}
 use Rattle.records.specs.Node.{isInit, isNorm, isRecons}
-use Rattle.records.specs.Client.{Write, Rebuild, Writing}
+use Rattle.records.specs.Client.{Writing}
 use Rattle.machine.proofs.Base.{upd, upd-same, upd-ind, clash, is-false, bool-cases}
 use Rattle.machine.proofs.EntryLaws.{recent-listed}
 use Rattle.machine.proofs.Columns.{Ops, L1, Columns, setSpare, setPhases}
 use Rattle.machine.proofs.Ledger.{Ledger, IsPos, noteCount}
-use Rattle.machine.proofs.Invariant.{Ghost, Laws, code, IsNode, Spot, at, Between, Live, Unwritten, PairOk, writes, WritingOk, PhaseOk, WriterOk, Inv, Good}
+use Rattle.machine.proofs.Invariant.{Ghost, Laws, IsNode, Spot, at, Between, Live, Unwritten, writes, WritingOk, PhaseOk, WriterOk, Inv, Good}
 use Rattle.machine.proofs.Frame.{of-live, counted, writer-holds, recons-live, norm-live, code-ext, phase-quiet}
 use Rattle.machine.proofs.Phases.{rebuild-only, one-writer}
 use Rattle.machine.proofs.Progress.{between-step, ids-step, finished-step, node-step, hand-step}

@@ -1,10 +1,10 @@
 -- What a step of a rebuild leaves alone: nothing is swapped and nothing reported done, so the ids and the values are as they were, and of the ghost
 -- only where the nodes stand is new. Assumes nothing.
 use mathlib.Core.Path.{_≡_, refl, sym, subst}
-use mathlib.Core.Logic.{_⊎_, inl, inr}
-use mathlib.Core.Bool.{Bool, true, false}
+use mathlib.Core.Logic.{_⊎_, inl}
+use mathlib.Core.Bool.{true, false}
 use mathlib.Core.List.{List}
-use Prim.Native.Nat.{ℕ, suc, _≤_, _<_}
+use Prim.Native.Nat.{ℕ}
 use native.Mathlib.Omega.{arith}
 use Rattle.records.specs.declared.Entry.{Entry}
 use Rattle.records.specs.declared.WriteId.{WriteId}

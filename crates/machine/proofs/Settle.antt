@@ -1,27 +1,26 @@
 -- Settle, by what it does to the columns, keeps the invariant; all n nodes then stand at the cut, and the last settle starts the counts anew from it.
 -- Assumes nothing.
-use mathlib.Core.Path.{_≡_, refl, sym, ap, subst, _∙_}
-use mathlib.Core.Logic.{_≢_, _⊎_, inl, inr}
+use mathlib.Core.Path.{_≡_, refl, sym, ap, _∙_}
+use mathlib.Core.Logic.{_⊎_, inl, inr}
 use mathlib.Core.Bool.{Bool, true, false, cond}
-use mathlib.Core.Option.{Option, some}
-use mathlib.Core.List.{List, []}
+use mathlib.Core.Option.{some}
+use mathlib.Core.List.{[]}
 use Prim.Native.Nat.{ℕ, zero, suc, _≤_, _<_}
 use native.Mathlib.Omega.{arith}
 use lib.Dec.{eqb, leb, ltb}
-use borrow.Author.Tests.{leb-true, leb-false, ltb-true, ltb-false, eqb-true, eqb-false, eq-eqb, ne-eqb, le-leb, lt-leb}
-use Rattle.code.specs.Decode.{NodeSet, has, noNodes}
+use borrow.Author.Tests.{leb-true, leb-false, ltb-true, ltb-false, eqb-true, eq-eqb, ne-eqb}
+use Rattle.code.specs.Decode.{has, noNodes}
 use Rattle.records.specs.declared.WriteId.{WriteId}
-use Rattle.records.specs.declared.Opmode.{Opmode}
 use Rattle.records.specs.declared.Opmode.the-variants.{Norm}
 use Rattle.records.specs.declared.Epoch.{Epoch}
 use Rattle.records.specs.Entries.{isListed}
 use Rattle.records.specs.Node.{isInit, isNorm, isRecons}
-use Rattle.records.specs.Client.{Write, Rebuild, Settling, Unlocking}
-use Rattle.machine.proofs.Base.{upd, upd-same, upd-other, upd-ind, each-place, clash, bool-cases, cond-ind}
+use Rattle.records.specs.Client.{Rebuild, Settling, Unlocking}
+use Rattle.machine.proofs.Base.{upd, upd-same, upd-other, upd-ind, each-place, clash, bool-cases}
 use Rattle.machine.proofs.EntryLaws.{listed-nil, old-nil}
 use Rattle.machine.proofs.Columns.{Ops, L1, isUnl, isL0, heldBy, Columns, setOps, setEpochs, setRsets, setEntries, setPhases}
 use Rattle.machine.proofs.Ledger.{Ledger, IsPos, noteCount, noteFinish, noteSettle, zeroth, isLast, Rebuilt}
-use Rattle.machine.proofs.Invariant.{Ghost, Laws, code, IsNode, Spot, at, OnCut, NodeOk, PairOk, HandOk, SettlingOk, SettlerOk, PhaseOk, Inv, Good}
+use Rattle.machine.proofs.Invariant.{Ghost, Laws, code, IsNode, at, OnCut, NodeOk, PairOk, SettlingOk, SettlerOk, Inv, Good}
 use Rattle.machine.proofs.Frame.{of-live, recons-live, norm-live, norm-recons, code-data, code-red, code-ext}
 use Rattle.machine.proofs.Sets.{no-nodes}
 use Rattle.machine.proofs.Phases.{phase-is, rebuild-is, others-quiet, writer-lock, phase-after, rebuild-only, one-writer}
