@@ -26,8 +26,7 @@ use Rattle.machine.proofs.Bytes.{Block, blockOf, ops}
 use Rattle.machine.proofs.View.{columns}
 use Rattle.machine.proofs.Kept.{Fits, Kept, entry}
 use Rattle.machine.proofs.KeptWriting.{read-kept, swap-kept, add-kept, check-kept, drop-kept, sweep-kept, fail-kept}
-use Rattle.machine.proofs.KeptRebuild.{lock-kept, pick-kept, weaken-kept, tighten-kept, write-kept, settle-kept, unlock-kept, quit-kept, stop-kept}
-use Rattle.machine.proofs.KeptFinish.{settle-rebuilt}
+use Rattle.machine.proofs.KeptRebuild.{lock-kept, pick-kept, weaken-kept, tighten-kept, write-kept, settle-kept, settle-rebuilt, unlock-kept, quit-kept, stop-kept}
 use Rattle.machine.proofs.KeptStart.{fresh-good, fresh-fits}
 use Rattle.machine.proofs.Limits.{limits-same}
 use Rattle.machine.proofs.Start.{steady}
