@@ -27,7 +27,7 @@ use Rattle.machine.proofs.Bytes.{Block, ops}
 use Rattle.machine.proofs.View.{columns}
 use Rattle.machine.proofs.Elements.{none-at, some-at}
 use Rattle.machine.proofs.Largest.{in-position, Place, place, the-largest}
-use Rattle.machine.proofs.Pick.{FWithin, Consistent, all-data, beside, Candidate, anew, resumed}
+use Rattle.machine.proofs.Pick.{FWithin, Consistent, all-data, beside, Resumes, Candidate, anew, resumed}
 
 ---- f of a node by its entries
 module _ (nodes : List Node) (x : WriteId) where
@@ -90,8 +90,7 @@ module _ (z : Sizes) (s : Stripe) where
       let (r, recons) = some-at failedNode (λ x. isRecons (x .opmode)) (s .nodes) e in
       resumed r recons (λ j m. member j (or-one (isRecons (C .op j)) (not (isInit (C .op j)) && someOf (λ x. has (x .rset) j) (s .nodes)) (setOf-has _ j m)))
     where
-      member : (j : ℕ) → (isRecons (C .op j) ≡ true) ⊎ ((not (isInit (C .op j)) && someOf (λ x. has (x .rset) j) (s .nodes)) ≡ true) →
-          (isRecons (C .op j) ≡ true) ⊎ ((isInit (C .op j) ≡ false) × ((l : ℕ) × (has (C .rset l) j ≡ true)))
+      member : (j : ℕ) → (isRecons (C .op j) ≡ true) ⊎ ((not (isInit (C .op j)) && someOf (λ x. has (x .rset) j) (s .nodes)) ≡ true) → Resumes (ops z) C j
       member j (inl t) = inl t
       member j (inr t) =
           let (live, some) = and-both (not (isInit (C .op j))) (someOf (λ x. has (x .rset) j) (s .nodes)) t in

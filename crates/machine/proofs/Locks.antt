@@ -1,8 +1,8 @@
 -- The calls that change locks and phases alone, by what they do to the columns, keep the invariant. Assumes nothing.
-use mathlib.Core.Path.{_≡_, refl, sym, ap, subst, _∙_}
+use mathlib.Core.Path.{_≡_, refl, ap, _∙_}
 use mathlib.Core.Logic.{_≢_, _⊎_, inl, inr}
 use mathlib.Core.Bool.{Bool, true, false, cond, _&&_}
-use mathlib.Core.Option.{none, some}
+use mathlib.Core.Option.{none}
 use mathlib.Core.List.{List, [], _∷_, _++_}
 use Prim.Native.Nat.{ℕ, zero, suc, _+_, _≤_, _<_}
 use native.Mathlib.Omega.{arith}
@@ -13,13 +13,14 @@ use Rattle.records.specs.declared.Lmode.{Lmode}
 use Rattle.records.specs.declared.Lmode.the-variants as Lmode
 use Rattle.records.specs.Node.{isInit, isRecons}
 use Rattle.records.specs.Node as Node
-use Rattle.records.specs.Client.{Write, Rebuild, NoRebuild, Locking, Picking, Unlocking}
-use Rattle.machine.proofs.Base.{upd, upd-ind, clash, is-false, not-some, and-both, cond-ind}
-use Rattle.machine.proofs.EntryLaws.{in-nil}
+use Rattle.records.specs.Client.{Rebuild, NoRebuild, Locking, Picking, Unlocking}
+use Rattle.machine.proofs.Base.{upd, upd-ind, clash, is-false, and-both, cond-ind}
 use Rattle.machine.proofs.Columns.{Ops, Lock, Unl, Exp, L0, L1, isUnl, isExp, isL0, isLocked, heldBy, Columns, setLocks, setPhases, setHands, setFinished}
 use Rattle.machine.proofs.Ledger.{Ledger}
-use Rattle.machine.proofs.Invariant.{Ghost, IsNode, HandOk, FinishedOk, wasExp, writes, LockingOk, UnlockingOk, PhaseOk, RebuildOk, Inv, Good}
+use Rattle.machine.proofs.Invariant.{Ghost, IsNode, wasExp, writes, LockingOk, UnlockingOk, PhaseOk, RebuildOk, Inv, Good}
 use Rattle.machine.proofs.Frame.{of-live, rebuild-quiet}
+use Rattle.machine.proofs.Hands.{drop-good}
+use Rattle.machine.proofs.Sweep.{empty-finished-good}
 use Rattle.machine.proofs.Phases.{held-l1, not-other, unheld, phase-unheld, phase-is}
 
 ---- what the calls do to a lock
@@ -165,24 +166,7 @@ module _ (O : Ops) where
         (λ j b. cond-ind (λ l. heldBy c l ≡ false) (heldBy c (s .lock j)) Exp (s .lock j) (λ held. refl) (λ f. f)) refl
 
     pub stopped-good : Good O h (stopped c s)
-    stopped-good =
-        let J = lost-good .inv in
-        record {
-          ghost = G;
-          inv = record {
-            ids = I .ids;
-            node = I .node;
-            pair = I .pair;
-            hand = upd-ind (λ d a. (w : Write) → a ≡ some w → HandOk O G h (s .op) d (s .difference d) w) (s .hand) c none (λ w e. not-some e) (λ d ne. I .hand d);
-            finished = upd-ind (λ d l. FinishedOk O G h d (s .next d) l) (s .finished) c []
-                (record { done = λ x e. in-nil x e; client = λ x e. in-nil x e; number = λ x e. in-nil x e }) (λ d ne. I .finished d);
-            unl = J .unl;
-            weak = J .weak;
-            phase = J .phase;
-            rebuild = J .rebuild;
-            one = J .one;
-          };
-        }
+    stopped-good = drop-good O h (setFinished (upd (s .finished) c []) (lost c s)) c (empty-finished-good O h (lost c s) c lost-good)
 
     ---- Lock
     module _ (old : List Lmode) (next : LocksNext (s .phase c) old) where
