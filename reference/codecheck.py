@@ -133,8 +133,10 @@ def decoded(k, n, B, codeword, members):
 
 def case_line(k, n, B, codeword):
     redundant = codeword[k * B :]
-    line = f"{hexadecimal([k, n])} {hexadecimal(B.to_bytes(2, 'big'))} {show_checksum(checksum(0, redundant))}"
-    return f"{line} {hexadecimal(redundant)}" if B <= 2 else line
+    fields = [hexadecimal([k, n]), hexadecimal(B.to_bytes(2, "big")), show_checksum(checksum(0, redundant))]
+    if B <= 2:
+        fields.append(hexadecimal(redundant))
+    return " ".join(fields)
 
 
 def line_per_set(k, n, B, codeword):
@@ -159,7 +161,8 @@ def line_per_group(k, n, B, codeword):
 def case_lines(k, n, B):
     codeword = encoded(k, n, B)
     yield case_line(k, n, B, codeword)
-    yield from (line_per_group if (k, n) == (12, 18) else line_per_set)(k, n, B, codeword)
+    per_set = line_per_group if (k, n) == (12, 18) else line_per_set
+    yield from per_set(k, n, B, codeword)
 
 
 def lines():

@@ -129,7 +129,7 @@ def check_rebuilt(history, blocks):
     check_codeword(history, blocks)
     for p in range(history.sizes.k):
         parts = history.values(p)[history.last_done(p) :]
-        demand(blocks[p] in parts, f"the rebuild gave at {p + 1} no first part of its swaps with every done write")
+        demand(blocks[p] in parts, f"block {p + 1} is no first part of its swaps with every done write")
 
 
 def check_steady(history, blocks):
@@ -181,7 +181,8 @@ def check_random(seed, calls):
             sys.stdout.write("".join(line.decode("latin-1") + "\n" for line in lines))
             raise
         rebuilds += history.rebuilds
-        print(f"seed {seed}: sizes {lines[0].decode()}: {len(lines) - 1} calls, {history.rebuilds} rebuilds finished, demand 3 holds")
+        sizes = lines[0].decode()
+        print(f"seed {seed}: sizes {sizes}: {len(lines) - 1} calls, {history.rebuilds} rebuilds finished")
         seed += 1
     print(f"{calls} calls, {rebuilds} rebuilds finished, demand 3 holds")
 

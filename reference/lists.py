@@ -42,6 +42,10 @@ def text(name, *arguments):
     return b" ".join(fields)
 
 
+def is_idle(client):
+    return client.hand is None and client.rebuild is None and client.sweeps == 0
+
+
 class Author:
     def __init__(self, stripe, rng, damaged, arbitrary):
         """Damaged, arbitrary: the shares of damaged lines and of arbitrary calls."""
@@ -243,14 +247,18 @@ class Author:
     def new_plan(self):
         plans = [self.race, self.overtaken, self.late_failure, self.resume]
         if self.all_free() and self.chance(0.8):
-            plans = [self.late_add, self.weakened_add, self.tidied_previous, self.half_marked, self.crowd]
-        idle = [c for c, client in self.stripe.clients.items() if not (client.hand or client.rebuild or client.sweeps)]
+            plans = [self.late_add, self.weakened_add, self.tidied_previous, self.half_marked]
+            plans += [self.crowd, self.many_done]
+        plan = self.rng.choice(plans)(*self.two_clients())
+        # A rebuild before it leaves no other write half done.
+        return self.repair(self.client()) + plan if self.chance(0.5) else plan
+
+    def two_clients(self):
+        """Two idle clients if there are."""
+        idle = [c for c, client in self.stripe.clients.items() if is_idle(client)]
         if len(idle) < 2:
             idle = list(self.stripe.clients) * 2
-        c, d = self.rng.sample(idle, 2)
-        plan = self.rng.choice(plans)(c, d)
-        # A rebuild before it leaves no other write half done.
-        return self.repair(d) + plan if self.chance(0.5) else plan
+        return self.rng.sample(idle, 2)
 
     def n_times(self, name, c):
         return [text(name, c)] * self.stripe.sizes.n
@@ -263,19 +271,24 @@ class Author:
         clean = []
         for i in self.stripe.positions():
             last = self.stripe.nodes[i].last_recent_id()
-            if last is None or all(self.stripe.nodes[j].lists(last) for j in self.stripe.redundant_nodes()):
+            redundant = [self.stripe.nodes[j] for j in self.stripe.redundant_nodes()]
+            if last is None or all(node.lists(last) for node in redundant):
                 clean.append(i)
         return self.rng.choice(clean or [1])
 
     def done_write(self, c, i):
-        return [text("swap", c, i, self.value())] + [text("add", c, j) for j in self.stripe.redundant_nodes()]
+        adds = [text("add", c, j) for j in self.stripe.redundant_nodes()]
+        return [text("swap", c, i, self.value())] + adds
 
     def sweep_round(self, c):
         return self.n_times("sweep", c) * 2
 
     def whole_rebuild(self, c):
-        locks_and_pick = self.n_times("lock", c) + [text("pick", c)]
-        return locks_and_pick + self.n_times("write", c) + self.n_times("settle", c) + self.n_times("unlock", c)
+        begun = self.locks_and_pick(c) + self.n_times("write", c)
+        return begun + self.n_times("settle", c) + self.n_times("unlock", c)
+
+    def locks_and_pick(self, c):
+        return self.n_times("lock", c) + [text("pick", c)]
 
     def repair(self, c):
         """A whole rebuild; where too few agree, failures lower the slack before."""
@@ -288,7 +301,8 @@ class Author:
         """c loses locked nodes to d, and then meets d's lock."""
         lost = range(1, self.rng.randint(1, 2) + 1)
         failures = [text("fail", j, self.value()) for j in lost]
-        return [text("lock", c)] * len(lost) + failures + [text("lock", d)] * (len(lost) + 1) + [text("lock", c)]
+        begun = [text("lock", c)] * len(lost) + failures
+        return begun + [text("lock", d)] * (len(lost) + 1) + [text("lock", c)]
 
     def overtaken(self, c, d):
         """c meets d's lock after nodes that d lost; they were perhaps EXP."""
@@ -303,23 +317,26 @@ class Author:
         """c's adds come after d has left its rebuild half way."""
         swap, *adds = self.done_write(c, self.position())
         writes = [text("write", d)] * self.rng.randint(1, self.stripe.sizes.k)
-        begun = self.n_times("lock", d) + [text("pick", d)] + writes + [text("quit", d)]
+        begun = self.locks_and_pick(d) + writes + [text("quit", d)]
         weakened = self.n_times("lock", d) + [text("weaken", d)] if self.chance(0.5) else []
         return [swap] + begun + weakened + adds
 
     def late_failure(self, c, d):
         """A node fails while c writes or settles."""
         failure = text("fail", self.node(), self.value())
-        rebuild = self.n_times("lock", c) + [text("pick", c)]
+        begun = self.locks_and_pick(c)
         if self.chance(0.5):
-            return rebuild + self.up_to_n("write", c) + [failure] + self.n_times("write", c)
-        return rebuild + self.n_times("write", c) + self.up_to_n("settle", c) + [failure] + self.n_times("settle", c)
+            return begun + self.up_to_n("write", c) + [failure] + self.n_times("write", c)
+        begun += self.n_times("write", c) + self.up_to_n("settle", c)
+        return begun + [failure] + self.n_times("settle", c)
 
     def resume(self, c, d):
         """c's rebuild ends half way, and d finishes it, perhaps after a failure."""
-        begun = self.n_times("lock", c) + [text("pick", c)] + self.up_to_n("write", c)
+        begun = self.locks_and_pick(c)
         if self.chance(0.3):
             begun += self.n_times("write", c) + self.up_to_n("settle", c)
+        else:
+            begun += self.up_to_n("write", c)
         end = [text(self.rng.choice(["stop", "quit"]), c)]
         if self.chance(0.5):
             end.append(text("fail", self.node(), self.value()))
@@ -345,13 +362,17 @@ class Author:
     def half_marked(self, c, d):
         """d picks while c has marked its finished id at some nodes only."""
         sweeps = self.n_times("sweep", c) + self.up_to_n("sweep", c)
-        return self.done_write(c, self.clean_position()) + sweeps + self.n_times("lock", d) + [text("pick", d)]
+        return self.done_write(c, self.clean_position()) + sweeps + self.locks_and_pick(d)
 
     def crowd(self, c, d):
         """d fills a list that has an entry marked old."""
         i = self.clean_position()
-        swaps = [text("swap", d, i, self.value()), text("drop", d)] * 17
+        swaps = [text("swap", d, i, self.value()), text("drop", d)] * 18
         return self.done_write(c, i) + self.sweep_round(c) + swaps
+
+    def many_done(self, c, d):
+        """c's finished list becomes full."""
+        return self.done_write(c, self.clean_position()) * 10
 
     # --------------------------------------------------------- safety
 
@@ -434,7 +455,7 @@ def extra_field(rng, line):
 
 def huge_number(rng, line):
     letter, *fields = line.split(b" ")
-    digits = rng.choice([b"256", b"4294967297", b"18446744073709551617", b"340282366920938463463374607431768211457", b"9" * 300])
+    digits = rng.choice([b"256", b"%d" % (2**32 + 1), b"%d" % (2**64 + 1), b"9" * 39, b"9" * 300])
     return b" ".join([letter, digits, *fields[1:]])
 
 
@@ -444,7 +465,8 @@ def leading_zeros(rng, line):
 
 def other_number(rng, line):
     letter, *fields = line.split(b" ")
-    return b" ".join([letter, rng.choice([b"1.0", b"1e0", b"0x1", b"one", b"", b"1_0", b"\xef\xbc\x91", b"I"]), *fields[1:]])
+    other = rng.choice([b"1.0", b"1e0", b"0x1", b"one", b"", b"1_0", b"\xef\xbc\x91", b"I"])
+    return b" ".join([letter, other, *fields[1:]])
 
 
 def hex_digits(rng, line):
@@ -467,7 +489,8 @@ def split(rng, line):
 
 def very_long(rng, line):
     length = rng.choice([100, 255, 256, 257, 1000, 4096, 5000, 20000])
-    return rng.choice([line + b"A" * length, b"1" * length, line + b" " * length, b"S 1 1 " + b"0" * length, rng.randbytes(length).replace(b"\n", b"")])
+    kinds = [line + b"A" * length, b"1" * length, line + b" " * length, b"S 1 1 " + b"0" * length]
+    return rng.choice(kinds + [rng.randbytes(length).replace(b"\n", b"")])
 
 
 def noise(rng, line):

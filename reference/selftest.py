@@ -17,7 +17,8 @@ import shelfrun
 import striperun
 from answers import ACCEPTED, Answer
 from script import answer_of, lines_of, read_call
-from stripe import INIT, L0, L1, MAX_EPOCH, MAX_WRITES, NORM, PICKING, RECONS, Entry, Node, Rebuild, Sizes, WriteId
+from stripe import INIT, L0, L1, MAX_EPOCH, MAX_WRITES, NORM, PICKING, RECONS
+from stripe import Entry, Node, Rebuild, Sizes, WriteId
 from striperun import new_stripe
 
 EXAMPLES = Path(__file__).parent / "examples"
@@ -137,7 +138,9 @@ def test_example_9():
 def test_limits_of_sizes():
     for good in [(2, 3, 1, 0, 1), (2, 4, 4096, 2, 8), (12, 18, 1, 6, 8), (6, 12, 1, 6, 1)]:
         equal(Sizes(*good).permitted(), True)
-    for bad in [(2, 5, 1, 0, 1), (2, 2, 1, 0, 1), (12, 19, 1, 0, 1), (13, 14, 1, 0, 1), (2, 4, 0, 0, 1), (2, 4, 4097, 0, 1), (2, 4, 1, 3, 1), (2, 4, 1, 0, 0), (2, 4, 1, 0, 9)]:
+    for bad in [(1, 2, 1, 0, 1), (13, 14, 1, 0, 1), (2, 2, 1, 0, 1), (2, 5, 1, 0, 1), (12, 19, 1, 0, 1)]:
+        equal(Sizes(*bad).permitted(), False)
+    for bad in [(2, 4, 0, 0, 1), (2, 4, 4097, 0, 1), (2, 4, 1, 3, 1), (2, 4, 1, 0, 0), (2, 4, 1, 0, 9)]:
         equal(Sizes(*bad).permitted(), False)
 
 
@@ -213,15 +216,18 @@ def test_sizes_refused():
 
 
 UNREADABLE = [
-    b"", b" ", b"R", b"R ", b" R 1", b"R 1 ", b"R  1", b"R\t1", b"R 1\r", b"R 1\0", b"r 1", b"R +1", b"R -1", b"R 1 1",
-    b"R 0x1", b"R 1.0", b"R one", b"X 1", b"RR 1", b"R1", b"\xef\xbb\xbfR 1", b"R \xd9\xa1", b"R 1_0", b"S 1 1", b"S 1 1 1",
-    b"S 1 1 001", b"S 1 1 0a", b"S 1 1 0G", b"S 1 1 01 ", b"S 1 1  01", b"S 1 1 0101", b"S 1 01", b"N 1", b"N 1 1", b"A 1", b"L", b"L 1 1",
-]  # fmt: skip
+    *[b"", b" ", b"R", b"R ", b" R 1", b"R 1 ", b"R  1", b"R\t1", b"R,1", b"R1", b"R 1 1", b"RR 1"],
+    *[b"R 1\r", b"R 1\0", b"\0R 1", b"R 1\x7f", b"\xef\xbb\xbfR 1", b"R \xd9\xa1"],
+    *[b"r 1", b"X 1", b"1 R", b"R +1", b"R -1", b"R 0x1", b"R 1.0", b"R 1_0", b"R one"],
+    *[b"S 1 1", b"S 1 01", b"S 1 1 1", b"S 1 1 001", b"S 1 1 0101", b"S 1 1 0a", b"S 1 1 0G"],
+    *[b"S 1 1 01 ", b"S 1 1  01", b"S 1 1 -1", b"N 1", b"N 1 1", b"A 1", b"A 1 3 3", b"L", b"L 1 1"],
+]
 
 OUT_OF_RANGE = [
-    b"R 0", b"R 3", b"R 00", b"R 256", b"R 257", b"R 4294967297", b"R 18446744073709551617", b"R 1" + b"0" * 10000,
-    b"S 3 1 00", b"S 1 3 00", b"A 1 2", b"A 1 5", b"A 3 3", b"H 1 5", b"N 5 00", b"N 0 00", b"L 3", b"C 0", b"Q 9",
-]  # fmt: skip
+    *[b"R 0", b"R 3", b"R 00", b"R 256", b"R 257", b"R 4294967297", b"R 18446744073709551617"],
+    *[b"R 1" + b"0" * 10000, b"S 3 1 00", b"S 1 3 00", b"A 1 2", b"A 1 5", b"A 3 3", b"H 1 5"],
+    *[b"N 5 00", b"N 0 00", b"L 3", b"C 0", b"Q 9", b"D 3", b"G 3", b"P 3", b"O 3", b"I 3", b"W 3"],
+]
 
 
 def test_lines_of_shelfrun():
@@ -300,6 +306,7 @@ def test_answers_occur():
 def test_wrong_machines():
     """guarantee.py notices each wrong machine that breaks demand 3."""
     for mutant in mutants.MUTANTS:
+        mutants.mutated(mutant)
         mutants.check_breaking(mutant)
 
 

@@ -11,16 +11,17 @@ from dataclasses import dataclass
 from typing import NamedTuple, Optional
 
 import code
+import field
 from answers import ACCEPTED, Answer
 from code import block, coefficient, put_block
-from field import add, scale
 
 # opmode
 NORM, RECONS, INIT = "NORM", "RECONS", "INIT"
 # lmode
 UNL, L0, L1, EXP = "UNL", "L0", "L1", "EXP"
 # phases of a rebuild
-LOCKING, PICKING, WRITING, SETTLING, UNLOCKING = "lock", "pick", "write", "settle", "unlock"
+LOCKING, PICKING = "lock", "pick"
+WRITING, SETTLING, UNLOCKING = "write", "settle", "unlock"
 
 MAX_WRITES = 1_000_000
 MAX_EPOCH = 1_000_000
@@ -34,7 +35,11 @@ class Sizes(NamedTuple):
     m: int  # clients
 
     def permitted(self):
-        return code.permitted(self.k, self.n, self.B) and 0 <= self.td <= self.n - self.k and 1 <= self.m <= 8
+        return (
+            code.permitted(self.k, self.n, self.B)
+            and 0 <= self.td <= self.n - self.k
+            and 1 <= self.m <= 8
+        )
 
 
 # ---------------------------------------------------------------- records
@@ -75,12 +80,13 @@ class Node:
         return self.opmode == NORM and self.lmode in (UNL, L0)
 
     def held_by(self, c):
-        """"Held by c" means lmode L0 or L1 with holder c."""
+        """Held by c: lmode L0 or L1 with holder c."""
         return self.lmode in (L0, L1) and self.holder == c
 
     def is_due(self):
         """A node is due if INIT or if a recent entry has age 64 or more."""
-        return self.opmode == INIT or any(e.recent and e.age >= self.DUE_AGE for e in self.entries)
+        aged = any(e.recent and e.age >= self.DUE_AGE for e in self.entries)
+        return self.opmode == INIT or aged
 
     def lists(self, id):
         return any(e.id == id for e in self.entries)
@@ -220,6 +226,7 @@ class Stripe:
     # ------------------------------------------------------------ writing
 
     def read(self, i):
+        """Shows block i."""
         if not self.is_position(i):
             return Answer(2)
         node = self.nodes[i]
@@ -228,6 +235,7 @@ class Stripe:
         return Answer(0, self.block(i))
 
     def swap(self, c, i, value):
+        """Difference = value XOR old block; previous id = last recent id there."""
         if len(value) != self.sizes.B:
             return Answer(1)
         if not self.is_client(c) or not self.is_position(i):
@@ -244,12 +252,13 @@ class Stripe:
         id = WriteId(c, i, client.next_number)
         client.next_number += 1
         client.hand = Hand(i, id, node.last_recent_id(), node.epoch, {i})
-        self.put_difference(c, add(value, self.block(i)))
+        self.put_difference(c, field.add(value, self.block(i)))
         self.put_block(i, value)
         node.enter(id)
         return ACCEPTED
 
     def add(self, c, j):
+        """c(j,i) times the difference is added and the id entered; j joins done."""
         if not self.is_client(c) or not self.is_redundant(j):
             return Answer(2)
         client, node = self.clients[c], self.nodes[j]
@@ -264,8 +273,8 @@ class Stripe:
             return Answer(6, hand.previous)
         if node.is_full():
             return Answer(7)
-        multiple = scale(coefficient(j, hand.position), self.difference(c))
-        self.put_block(j, add(self.block(j), multiple))
+        multiple = field.scale(coefficient(j, hand.position), self.difference(c))
+        self.put_block(j, field.add(self.block(j), multiple))
         node.enter(hand.id)
         hand.done.add(j)
         if not hand.done.issuperset({hand.position, *self.redundant_nodes()}):
@@ -275,6 +284,7 @@ class Stripe:
         return Answer(0, "Done")
 
     def check(self, c, j):
+        """Whether node j still lists c's write, and the one before it, as recent."""
         if not self.is_client(c) or not self.is_node(j):
             return Answer(2)
         hand = self.clients[c].hand
@@ -290,6 +300,7 @@ class Stripe:
         return Answer(0, "NoChange")
 
     def drop(self, c):
+        """The write leaves the hand."""
         if not self.is_client(c):
             return Answer(2)
         client = self.clients[c]
@@ -299,6 +310,7 @@ class Stripe:
         return ACCEPTED
 
     def sweep(self, c):
+        """One node of a round: nodes 1 to n discarding, then 1 to n marking."""
         if not self.is_client(c):
             return Answer(2)
         client, n = self.clients[c], self.sizes.n
@@ -307,7 +319,6 @@ class Stripe:
         node = self.nodes[client.sweeps % n + 1]
         if not node.is_free():
             return modes_not_met(node)
-        # A round goes over nodes 1 to n discarding, then over 1 to n marking.
         if client.sweeps < n:
             node.discard(client.moved)
         else:
@@ -319,6 +330,7 @@ class Stripe:
         return ACCEPTED
 
     def stop(self, c):
+        """All that c held becomes EXP; its record is fresh but for the number."""
         if not self.is_client(c):
             return Answer(2)
         self.expire_held(c)
@@ -327,6 +339,7 @@ class Stripe:
         return ACCEPTED
 
     def fail(self, j, value):
+        """The block becomes the bytes given; INIT, and the rest as fresh."""
         if len(value) != self.sizes.B:
             return Answer(1)
         if not self.is_node(j):
@@ -338,6 +351,7 @@ class Stripe:
     # ------------------------------------------------------------ rebuild
 
     def lock(self, c):
+        """The next node goes from UNL or EXP to L1; its old lmode is remembered."""
         if not self.is_client(c):
             return Answer(2)
         client = self.clients[c]
@@ -355,6 +369,7 @@ class Stripe:
         return ACCEPTED
 
     def pick(self, c):
+        """The spare becomes the codeword decoded from the set; E = largest epoch."""
         if not self.is_client(c):
             return Answer(2)
         client = self.clients[c]
@@ -377,10 +392,13 @@ class Stripe:
         return Answer(0, (sorted(chosen), E))
 
     def weaken(self, c):
+        """Redundant nodes go to L0: they accept adds, for more nodes to agree."""
         if not self.is_client(c):
             return Answer(2)
         client = self.clients[c]
-        if not client.in_phase(PICKING) or client.rebuild.untightened or self.with_opmode(RECONS):
+        if not client.in_phase(PICKING) or client.rebuild.untightened:
+            return Answer(3)
+        if self.with_opmode(RECONS):
             return Answer(3)
         if not self.holds_all(c):
             return self.lose(c)
@@ -390,6 +408,7 @@ class Stripe:
         return ACCEPTED
 
     def tighten(self, c):
+        """The lowest redundant node not tightened since the weaken goes to L1."""
         if not self.is_client(c):
             return Answer(2)
         client = self.clients[c]
@@ -403,6 +422,7 @@ class Stripe:
         return ACCEPTED
 
     def write(self, c):
+        """The next node: block from the spare, RECONS, epoch E, rset = the set."""
         if not self.is_client(c):
             return Answer(2)
         client = self.clients[c]
@@ -421,6 +441,7 @@ class Stripe:
         return ACCEPTED
 
     def settle(self, c):
+        """The next node: epoch E+1, entries and rset cleared, NORM, still held."""
         if not self.is_client(c):
             return Answer(2)
         client = self.clients[c]
@@ -440,6 +461,7 @@ class Stripe:
         return Answer(0, "rebuilt") if rebuild.phase == UNLOCKING else ACCEPTED
 
     def unlock(self, c):
+        """The next node goes to UNL; the nth ends the rebuild."""
         if not self.is_client(c):
             return Answer(2)
         client = self.clients[c]
@@ -522,9 +544,12 @@ class Stripe:
             return False
         data = [i for i in members if self.is_position(i)]
         redundant = [j for j in members if self.is_redundant(j)]
-        return all(self.f(j) == self.f(r) for j in redundant for r in redundant) and all(
-            self.f(i) == of_position(self.f(j), i) for i in data for j in redundant
-        )
+        equal = all(self.f(j) == self.f(r) for j in redundant for r in redundant)
+        return equal and all(self.f(i) == of_position(self.f(j), i) for i in data for j in redundant)
+
+    def expected_f(self, j, ids):
+        """The f of a node j that agrees with a redundant node whose f is ids."""
+        return ids if self.is_redundant(j) else of_position(ids, j)
 
     def largest_consistent_set(self):
         """The largest consistent set, on a tie the all-data set, then the one
@@ -538,7 +563,7 @@ class Stripe:
         f = {j: self.f(j) for j in norm}
         largest = {i for i in norm if self.is_position(i)}
         for r in sorted(j for j in norm if self.is_redundant(j)):
-            agreeing = {j for j in norm if f[j] == (f[r] if self.is_redundant(j) else of_position(f[r], j))}
+            agreeing = {j for j in norm if f[j] == self.expected_f(j, f[r])}
             if len(agreeing) > len(largest):
                 largest = agreeing
         return largest

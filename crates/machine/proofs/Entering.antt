@@ -94,7 +94,8 @@ module _ (O : Ops) where
     pub done : DoneThen G h s j i q (h' .done)
     pub new : (m y l : ℕ) → 1 ≤ l → l ≤ h' .len y → (l ≤ h .len y) ⊎ (isOldIn (idOf' y l) (s .entries m) ≡ false)
 
-  module _ (L : Laws O) {G : Ghost} {h h' : Ledger B} {s : Columns B} (I : Inv O G h s) {idOf' : ℕ → ℕ → WriteId} {j i q : ℕ} {id : WriteId} {b : B} (T : Takes G s j) (E : Enters G h h' s idOf' j i q id b) where
+  module _ (L : Laws O) {G : Ghost} {h h' : Ledger B} {s : Columns B} (I : Inv O G h s)
+      {idOf' : ℕ → ℕ → WriteId} {j i q : ℕ} {id : WriteId} {b : B} (T : Takes G s j) (E : Enters G h h' s idOf' j i q id b) where
     abbrev G' : Ghost
     G' = entered G idOf' j i q
 
@@ -156,6 +157,9 @@ module _ (O : Ops) where
         same f y = upd2-pos f j i (suc q) m y d
 
     ---- the node's list: an id listed is the new one or one of before
+    abbrev Recent : ℕ → ℕ → Type 0
+    Recent y l = (isRecentIn (idOf' y l) es || sameId id (idOf' y l)) ≡ true
+
     list : ListOk O G' h' j (enter id es)
     list =
         record {
@@ -177,19 +181,24 @@ module _ (O : Ops) where
         listed x (inl e) = let a = v .listed x e in record { l = a .l; low = a .low; high = le-trans (a .high) (list-grows j (x .position)); is = a .is }
         listed x (inr e) =
             rw (← (same-id id x e))
-            (record { l = suc q; low = omega arith; high = rw (E .position, count (G .inList)) (omega arith); is = ap (λ y. idOf' y (suc q)) (E .position) ∙ E .is })
+            (record {
+              l = suc q;
+              low = omega arith;
+              high = rw (E .position, count (G .inList)) (omega arith);
+              is = ap (λ y. idOf' y (suc q)) (E .position) ∙ E .is;
+            })
 
         mine : (x : WriteId) → (isListed x es ≡ true) ⊎ (sameId id x ≡ true) → Spot O j (x .position)
         mine x (inl e) = v .mine x e
         mine x (inr e) = rw (← (same-id id x e), E .position) (E .spot)
 
-        undone : (l y : ℕ) → Spot O j y → 1 ≤ l → l ≤ G' .inList j y → h' .done y l ≡ false → (isRecentIn (idOf' y l) es || sameId id (idOf' y l)) ≡ true
+        undone : (l y : ℕ) → Spot O j y → 1 ≤ l → l ≤ G' .inList j y → h' .done y l ≡ false → Recent y l
         undone l =
-            each-place (λ y. Spot O j y → 1 ≤ l → l ≤ G' .inList j y → h' .done y l ≡ false → (isRecentIn (idOf' y l) es || sameId id (idOf' y l)) ≡ true) i
+            each-place (λ y. Spot O j y → 1 ≤ l → l ≤ G' .inList j y → h' .done y l ≡ false → Recent y l) i
             (λ p a c d. here p a (rw (count (G .inList)) at c) d (same-or l (suc q)))
             (λ y d p a c f. or-left (isRecentIn (idOf' y l) es) (sameId id (idOf' y l)) (v .undone y l p a (rw (count-other (G .inList) y d) at c) f))
           where
-            here : Spot O j i → 1 ≤ l → l ≤ suc q → h' .done i l ≡ false → (l ≡ suc q) ⊎ (l ≢ suc q) → (isRecentIn (idOf' i l) es || sameId id (idOf' i l)) ≡ true
+            here : Spot O j i → 1 ≤ l → l ≤ suc q → h' .done i l ≡ false → (l ≡ suc q) ⊎ (l ≢ suc q) → Recent i l
             here p a c d (inl e) = rw (e, E .is) (or-right (isRecentIn id es) (sameId id id) (same-id-refl id))
             here p a c d (inr e) = or-left (isRecentIn (idOf' i l) es) (sameId id (idOf' i l)) (v .undone i l p a (let f = listed-before in omega arith) d)
 
@@ -202,7 +211,10 @@ module _ (O : Ops) where
             block = E .block ∙ ap (code O j) (sym (λ z y. h' .val y (upd2-at (G .inBlock) j i (suc q) y z)));
             between = each-place (λ y. Spot O j y → Between O h' (G' .inBlock j y) y) i
                 (λ p. record { most = rw (count (G .inBlock)) (E .high); least = λ l d. in-block i p l (least j t i l p d) })
-                (λ y d p. record { most = rw (count-other (G .inBlock) y d) (le-trans (live .between y p .most) (E .len y)); least = λ l f. in-block y p l (least j t y l p f) });
+                (λ y d p. record {
+                  most = rw (count-other (G .inBlock) y d) (le-trans (live .between y p .most) (E .len y));
+                  least = λ l f. in-block y p l (least j t y l p f);
+                });
             epoch = live .epoch;
           };
           unwritten = λ t f. record {
@@ -246,34 +258,38 @@ module _ (O : Ops) where
           idOf = E .idOf;
           len = E .len;
           done = E .done .still;
-          still = λ e o p a c t. is-false (h' .done (w .id .position) (suc p)) (λ f. still p (another p a c (o .client)) t (E .done .only (w .id .position) (suc p) f));
+          still = λ e o p a c t. is-false (h' .done i' (suc p)) (λ f. still p (another p a c (o .client)) t (E .done .only i' (suc p) f));
           last = last;
-          in-done = λ m p a c f g r t. le-trans (t c f) (block-grows m (w .id .position));
+          in-done = λ m p a c f g r t. le-trans (t c f) (block-grows m i');
           not-done = λ m p a c f g r v t. not-done m p (another p g r v) (t c f);
         })
         H
       where
-        still : {A : Type 0} (p : ℕ) → (w .id .position ≡ i → p ≢ q) → h .done (w .id .position) (suc p) ≡ false →
-            (h .done (w .id .position) (suc p) ≡ true) ⊎ ((w .id .position ≡ i) × (suc p ≡ suc q) × Everywhere G s j i q) → A
+        i' : ℕ
+        i' = w .id .position
+
+        still : {A : Type 0} (p : ℕ) → (i' ≡ i → p ≢ q) → h .done i' (suc p) ≡ false →
+            (h .done i' (suc p) ≡ true) ⊎ ((i' ≡ i) × (suc p ≡ suc q) × Everywhere G s j i q) → A
         still p another t (inl f) = clash f t
         still p another t (inr (f, g, all)) = absurd (another f (omega arith))
 
-        not-done : (m p : ℕ) → (w .id .position ≡ i → p ≢ q) → G .inBlock m (w .id .position) ≤ p → G' .inBlock m (w .id .position) ≤ p
+        not-done : (m p : ℕ) → (i' ≡ i → p ≢ q) → G .inBlock m i' ≤ p → G' .inBlock m i' ≤ p
         not-done m p another =
-            upd2-ind (λ m y a. w .id .position ≡ y → G .inBlock m y ≤ p → a ≤ p) (G .inBlock) j i (suc q)
-            (λ r t. let c = E .before in let f = another r in omega arith) (λ m y d r t. t) m (w .id .position) refl
+            upd2-ind (λ m y a. i' ≡ y → G .inBlock m y ≤ p → a ≤ p) (G .inBlock) j i (suc q)
+            (λ r t. let c = E .before in let f = another r in omega arith) (λ m y d r t. t) m i' refl
 
     -- all but what a client has
     pub entered-inv : (next : ℕ → ℕ) (hand : ℕ → Option Write) (difference : ℕ → B) (finished : ℕ → List WriteId) → IdsOk O G' h' next →
         ((c : ℕ) (w : Write) → hand c ≡ some w → HandOk O G' h' (s .op) c (difference c) w) → ((c : ℕ) → FinishedOk O G' h' c (next c) (finished c)) →
-        Inv O G' h' (setBlocks (upd (s .block) j b) (setEntries (upd (s .entries) j (enter id es)) (setNexts next (setHands hand (setDifferences difference (setFinished finished s))))))
-    entered-inv next hand difference finished ids hands finisheds =
+        Inv O G' h' (setBlocks (upd (s .block) j b) (setEntries (upd (s .entries) j (enter id es))
+        (setNexts next (setHands hand (setDifferences difference (setFinished finished s))))))
+    entered-inv next hand difference finished ids hands finished-lists =
         record {
           ids = ids;
           node = node;
           pair = λ m l. record { together = I .pair m l .together; only = I .pair m l .only; member = λ t. not-cut I T m (inl (I .pair m l .only t)) };
           hand = hands;
-          finished = finisheds;
+          finished = finished-lists;
           unl = I .unl;
           weak = I .weak;
           phase = λ c m r. phase-quiet O G G' refl c m (s .phase c) (s .op m) (s .lock m) (s .epoch m) (nobody c) (I .phase c m r);

@@ -156,8 +156,10 @@ module _ (O : Ops) where
     phase-x c j NoRebuild o l e v = refl
     phase-x c j (Locking old) o l e v = record { before = λ t. clash t refl; tight = λ t. clash t refl; was = λ t. clash t refl }
     phase-x c j (Picking y) o l e v = λ t. clash t refl
-    phase-x c j (Writing y u z) o l e v = record { all-held = λ i. clash refl i; tight = λ t. clash t refl; behind = λ t. clash t refl; member = λ t i. clash refl i }
-    phase-x c j (Settling y z) o l e v = record { all-held = λ i. clash refl i; behind = λ t. clash t refl; behind-epoch = λ t. clash t refl; ahead = λ t. clash t refl }
+    phase-x c j (Writing y u z) o l e v =
+        record { all-held = λ i. clash refl i; tight = λ t. clash t refl; behind = λ t. clash t refl; member = λ t i. clash refl i }
+    phase-x c j (Settling y z) o l e v =
+        record { all-held = λ i. clash refl i; behind = λ t. clash t refl; behind-epoch = λ t. clash t refl; ahead = λ t. clash t refl }
     phase-x c j (Unlocking y) o l e v = record { within = v .within; ahead = λ t. clash t refl; norm = λ t. clash t refl; over = λ t. clash t refl }
 
     phase-other : (c j : ℕ) → x ≢ j → (p : Rebuild) (o : Opmode) (l : Lock) (e : ℕ) → PhaseOk O G c p j o l e → PhaseOk O G' c p j o l e
@@ -177,7 +179,8 @@ module _ (O : Ops) where
     phase : (c j : ℕ) → IsNode O j → PhaseOk O G' c (s .phase c) j (s' .op j) (s' .lock j) (s' .epoch j)
     phase c =
         each-place (λ j. IsNode O j → PhaseOk O G' c (s .phase c) j (s' .op j) (s' .lock j) (s' .epoch j)) x
-        (rw (upd-same (s .op) x Init, upd-same (s .lock) x Unl, upd-same (s .epoch) x 0) (λ r. phase-x c x (s .phase c) (s .op x) (s .lock x) (s .epoch x) (I .phase c x r)))
+        (rw (upd-same (s .op) x Init, upd-same (s .lock) x Unl, upd-same (s .epoch) x 0)
+        (λ r. phase-x c x (s .phase c) (s .op x) (s .lock x) (s .epoch x) (I .phase c x r)))
         (λ j d. rw (upd-other (s .op) x Init j d, upd-other (s .lock) x Unl j d, upd-other (s .epoch) x 0 j d)
         (λ r. phase-other c j d (s .phase c) (s .op j) (s .lock j) (s .epoch j) (I .phase c j r)))
 

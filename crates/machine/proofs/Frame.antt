@@ -283,7 +283,7 @@ module _ (O : Ops) where
       is-false (writes (s .phase c)) (λ w.
       clash (subst (λ t. (isUnl t || isL0 t) ≡ true) (writer-holds G c j (s .phase c) (s .op j) (s .lock j) (s .epoch j) (I .phase c j (of-live (I .node j .live i))) w i) l) refl)
 
-  -- a client that does not write: its part turns on `half` alone
+  -- a client that does not write: its part turns on `begun` alone
   pub phase-quiet : (G G' : Ghost) → G' .begun ≡ G .begun → (c j : ℕ) (p : Rebuild) (o : Opmode) (l : Lock) (e : ℕ) → writes p ≡ false → PhaseOk O G c p j o l e → PhaseOk O G' c p j o l e
   phase-quiet G G' q c j NoRebuild o l e w v = v
   phase-quiet G G' q c j (Locking old) o l e w v = record { before = v .before; tight = v .tight; was = λ a b d. v .was a (sym q ∙ b) d }

@@ -6,7 +6,7 @@ use mathlib.Core.Option.{Option, none, some}
 use Prim.Native.Nat.{ℕ, zero, suc, _≤_, _<_}
 use native.Mathlib.Decide.{decLt}
 use native.Mathlib.Omega.{arith}
-use Rattle.code.specs.Decode.{has, excluding}
+use Rattle.code.specs.Decode.{NodeSet, has, excluding}
 use Rattle.records.specs.declared.Previous.the-variants.{Id}
 use Rattle.records.specs.Entries.{isRecentIn}
 use Rattle.records.specs.Node.{isNorm}
@@ -27,7 +27,8 @@ module _ (O : Ops) where
   withHand s c t = setHands (upd (s .hand) c t) s
 
   -- a call that changes one hand alone
-  pub hand-only : {G : Ghost} {h : Ledger B} {s : Columns B} → Inv O G h s → (c : ℕ) (t : Option Write) → ((u : Write) → t ≡ some u → HandOk O G h (s .op) c (s .difference c) u) → Inv O G h (withHand s c t)
+  pub hand-only : {G : Ghost} {h : Ledger B} {s : Columns B} → Inv O G h s → (c : ℕ) (t : Option Write) →
+      ((u : Write) → t ≡ some u → HandOk O G h (s .op) c (s .difference c) u) → Inv O G h (withHand s c t)
   hand-only {G} {h} {s} I c t f =
       record {
         ids = I .ids;
@@ -49,7 +50,10 @@ module _ (O : Ops) where
   other-write : (h : Ledger B) (s : Columns B) (c : ℕ) (w u : Write) → (g : Good O h s) → s .hand c ≡ some w →
       (HandOk O (g .ghost) h (s .op) c (s .difference c) w → HandOk O (g .ghost) h (s .op) c (s .difference c) u) → Good O h (withHand s c (some u))
   other-write h s c w u g e f =
-      record { ghost = g .ghost; inv = hand-only (g .inv) c (some u) (λ v t. subst (HandOk O (g .ghost) h (s .op) c (s .difference c)) (some-same t) (f (g .inv .hand c w e))) }
+      record {
+        ghost = g .ghost;
+        inv = hand-only (g .inv) c (some u) (λ v t. subst (HandOk O (g .ghost) h (s .op) c (s .difference c)) (some-same t) (f (g .inv .hand c w e)));
+      }
 
   module _ {G : Ghost} {h : Ledger B} {s : Columns B} (I : Inv O G h s) {c : ℕ} (j : ℕ) {w : Write} (o : Own O G h (s .op) c (s .difference c) w) where
     abbrev i : ℕ
@@ -68,15 +72,18 @@ module _ (O : Ops) where
           difference = o .difference;
           prev = o .prev;
           last = o .last;
-          in-done = each-place (λ m. k < m → isNorm (s .op m) ≡ true → G .isSettled m ≡ false → has (excluding j (w .done)) m ≡ true → suc (o .q) ≤ G .inBlock m i) j
+          in-done = each-place (λ m. k < m → isNorm (s .op m) ≡ true → G .isSettled m ≡ false → has done' m ≡ true → suc (o .q) ≤ G .inBlock m i) j
               (λ a b z f. clash f (excluding-same L (of-live O (I .node j .live (norm-live (s .op j) b))) (w .done)))
               (λ m d a b z f. o .in-done m a b z (sym (others m d b) ∙ f));
-          not-done = each-place (λ m. k < m → isNorm (s .op m) ≡ true → G .isSettled m ≡ false → has (excluding j (w .done)) m ≡ false → G .inBlock m i ≤ o .q) j
+          not-done = each-place (λ m. k < m → isNorm (s .op m) ≡ true → G .isSettled m ≡ false → has done' m ≡ false → G .inBlock m i ≤ o .q) j
               (λ a b z f. absent a b z (decLt (o .q) (G .inBlock j i)))
               (λ m d a b z f. o .not-done m a b z (sym (others m d b) ∙ f));
         }
       where
-        others : (m : ℕ) → j ≢ m → isNorm (s .op m) ≡ true → has (excluding j (w .done)) m ≡ has (w .done) m
+        done' : NodeSet
+        done' = excluding j (w .done)
+
+        others : (m : ℕ) → j ≢ m → isNorm (s .op m) ≡ true → has done' m ≡ has (w .done) m
         others m d b = excluding-other L (of-live O (I .node m .live (norm-live (s .op m) b))) (w .done) j d
 
         absent : k < j → isNorm (s .op j) ≡ true → G .isSettled j ≡ false → Dec (o .q < G .inBlock j i) → G .inBlock j i ≤ o .q
@@ -95,17 +102,22 @@ module _ (O : Ops) where
 
         done : (p : ℕ) → p ≡ o .q → isRecentIn (G .idOf i p) (s .entries j) ≡ false → h .done i p ≡ true
         done zero t g = I .ids .zero-done i
-        done (suc p) t g = is-true (h .done i (suc p)) (λ d. let a = here .1 in clash (I .node j .list .undone i (suc p) (here .0) (omega arith) (omega arith) d) g)
+        done (suc p) t g =
+            is-true (h .done i (suc p)) (λ d.
+            let (spot, listed) = here in clash (I .node j .list .undone i (suc p) spot (omega arith) (omega arith) d) g)
 
         go : (w .previous ≡ Id (G .idOf i (o .q))) ⊎ (h .done i (o .q) ≡ true) → h .done i (o .q) ≡ true
         go (inl e) = done (o .q) refl (rw e at f)
         go (inr e) = e
 
   -- the check at j takes j out of done, or it takes the previous id away
-  pub check-init-good : Laws O → (h : Ledger B) (s : Columns B) (c j : ℕ) (w : Write) → Good O h s → s .hand c ≡ some w → isRecentIn (w .id) (s .entries j) ≡ false → Good O h (withHand s c (some (withDone w (excluding j (w .done)))))
-  check-init-good L h s c j w g e r = other-write h s c w (withDone w (excluding j (w .done))) g e (λ H. record { epoch = H .epoch; own = λ t. own-gone (g .inv) j (H .own t) L r })
+  pub check-init-good : Laws O → (h : Ledger B) (s : Columns B) (c j : ℕ) (w : Write) → Good O h s → s .hand c ≡ some w →
+      isRecentIn (w .id) (s .entries j) ≡ false → Good O h (withHand s c (some (withDone w (excluding j (w .done)))))
+  check-init-good L h s c j w g e r =
+      other-write h s c w (withDone w (excluding j (w .done))) g e (λ H. record { epoch = H .epoch; own = λ t. own-gone (g .inv) j (H .own t) L r })
 
-  pub check-gc-good : (h : Ledger B) (s : Columns B) (c j : ℕ) (w : Write) → Good O h s → s .hand c ≡ some w → isRecentIn (w .id) (s .entries j) ≡ true → previousRecent (w .previous) (s .entries j) ≡ false → Good O h (withHand s c (some (forgetting w)))
+  pub check-gc-good : (h : Ledger B) (s : Columns B) (c j : ℕ) (w : Write) → Good O h s → s .hand c ≡ some w →
+      isRecentIn (w .id) (s .entries j) ≡ true → previousRecent (w .previous) (s .entries j) ≡ false → Good O h (withHand s c (some (forgetting w)))
   check-gc-good h s c j w g e r f = other-write h s c w (forgetting w) g e (λ H. record { epoch = H .epoch; own = λ t. forgotten (H .own t) })
     where
       forgotten : Own O (g .ghost) h (s .op) c (s .difference c) w → Own O (g .ghost) h (s .op) c (s .difference c) (forgetting w)

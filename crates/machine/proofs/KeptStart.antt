@@ -34,7 +34,8 @@ element-ind P x d n (suc j) p q = by (decLt j n)
 
 module _ (z : Sizes) (spare differences : List ℕ) where
   -- node j is fresh, or there is none and it counts as failed
-  node-ind : (P : Node → Type 0) (j : ℕ) → (IsNode (ops z) j → P freshNode) → ((IsNode (ops z) j → ⊥) → P failedNode) → P (nodeAt (fresh z spare differences .nodes) j)
+  node-ind : (P : Node → Type 0) (j : ℕ) → (IsNode (ops z) j → P freshNode) → ((IsNode (ops z) j → ⊥) → P failedNode) →
+      P (nodeAt (fresh z spare differences .nodes) j)
   node-ind P j p q = element-ind P freshNode failedNode (z .n) j (λ a b. p (record { low = a; high = b })) (λ out. q (λ r. out (r .low) (r .high)))
 
   client-fresh : (c : ℕ) → clientAt (fresh z spare differences .clients) c ≡ freshClient

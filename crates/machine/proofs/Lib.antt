@@ -32,4 +32,5 @@ pub mod KeptRebuild
 pub mod Told
 pub mod Limits
 pub mod Largest
-pub mod Examples
+pub mod Starred
+pub mod Theorem

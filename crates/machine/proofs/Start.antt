@@ -131,7 +131,8 @@ module _ (O : Ops) where
       block : h .failed ≡ false → AllDone O h → (j : ℕ) → 1 ≤ j → j ≤ n → s .block j ≡ code O j (at O h (h .len))
       block f a j low high =
           let v = g .inv .node j .live (live f j low high) in
-          v .block ∙ code-ext O L j (at O h (g .ghost .inBlock j)) (at O h (h .len)) low (λ i p. ap (h .val i) (same i (v .between i p) (newest a i (p .pos) (h .len i) refl)))
+          v .block
+          ∙ code-ext O L j (at O h (g .ghost .inBlock j)) (at O h (h .len)) low (λ i p. ap (h .val i) (same i (v .between i p) (newest a i (p .pos) (h .len i) refl)))
         where
           same : (i : ℕ) → Between O h (g .ghost .inBlock j i) i → h .done i (h .len i) ≡ true → g .ghost .inBlock j i ≡ h .len i
           same i b d = let x = b .most in let y = b .least (h .len i) d in omega arith

@@ -37,7 +37,8 @@ module _ (O : Ops) where
       (setNexts (upd (s .next) c (suc (s .next c)))
       (setHands (upd (s .hand) c (some (newWrite s c i))) (setDifferences (upd (s .difference) c (diff v (s .block i))) s))))
 
-  module _ (L : Laws O) {G : Ghost} {h : Ledger B} {s : Columns B} (I : Inv O G h s) (c i : ℕ) (v : B) (P : IsPos O i) (norm : isNorm (s .op i) ≡ true) (unl : isUnl (s .lock i) ≡ true) where
+  module _ (L : Laws O) {G : Ghost} {h : Ledger B} {s : Columns B} (I : Inv O G h s)
+      (c i : ℕ) (v : B) (P : IsPos O i) (norm : isNorm (s .op i) ≡ true) (unl : isUnl (s .lock i) ≡ true) where
     -- it is swap suc q at i
     abbrev q : ℕ
     q = h .len i
@@ -87,8 +88,10 @@ module _ (O : Ops) where
     ---- the id is new
     new-id : (y l : ℕ) → 1 ≤ l → l ≤ h .len y → G .idOf y l ≢ id
     new-id y l a b e =
-        let t : G .idOf y l .number .0 < s .next c = subst (λ d. G .idOf y l .number .0 < s .next d) (ap (λ (x : WriteId). x .client) e) (I .ids .idOf-old y l a b) in
-        let f = ap (λ (x : WriteId). x .number .0) e in omega arith
+        let number = ap (λ (x : WriteId). x .number .0) e in
+        let client : G .idOf y l .client ≡ c = ap (λ (x : WriteId). x .client) e in
+        let earlier : G .idOf y l .number .0 < s .next c = rw client at (I .ids .idOf-old y l a b) in
+        omega arith
 
     not-old : (m : ℕ) → isOldIn id (s .entries m) ≡ false
     not-old m =
@@ -104,7 +107,9 @@ module _ (O : Ops) where
           is = upd2-same (G .idOf) i (suc q) id;
           position = refl;
           high = rw (upd-same (h .len) i (suc q)) (omega arith);
-          block = sym (code-data O i (at O h' (upd (G .inBlock i) i (suc q))) (P .high) ∙ ap (h' .val i) (upd-same (G .inBlock i) i (suc q)) ∙ upd2-same (h .val) i (suc q) v);
+          block =
+              sym (code-data O i (at O h' (upd (G .inBlock i) i (suc q))) (P .high)
+              ∙ ap (h' .val i) (upd-same (G .inBlock i) i (suc q)) ∙ upd2-same (h .val) i (suc q) v);
           newest = λ a. (refl, upd-same (h .len) i (suc q));
           val = old-place (h .val) v;
           idOf = old-place (G .idOf) id;
@@ -112,7 +117,8 @@ module _ (O : Ops) where
           own = λ m d a. upd-other (h .len) i (suc q) m d;
           failed = λ e. e;
           done = record { still = λ y l e. e; only = λ y l e. inl e };
-          new = λ m y l a b. place-ind (λ y l. (l ≤ h .len y) ⊎ (isOldIn (idOf' y l) (s .entries m) ≡ false)) (h .len) i (inr (rw (upd2-same (G .idOf) i (suc q) id) (not-old m))) (λ y l b. inl b) y l b;
+          new = λ m y l a. place-ind (λ y l. (l ≤ h .len y) ⊎ (isOldIn (idOf' y l) (s .entries m) ≡ false)) (h .len) i
+              (inr (rw (upd2-same (G .idOf) i (suc q) id) (not-old m))) (λ y l b. inl b) y l;
         }
       where
         spot : Spot O i i
@@ -124,7 +130,8 @@ module _ (O : Ops) where
     ---- ids
     new-place : (y l : ℕ) → l ≤ h' .len y → 1 ≤ l → idOf' y l ≡ id → l ≡ suc q
     new-place =
-        place-ind (λ y l. 1 ≤ l → idOf' y l ≡ id → l ≡ suc q) (h .len) i (λ a e. refl) (λ y l b a e. absurd (new-id y l a b (sym (old-place (G .idOf) id y l b) ∙ e)))
+        place-ind (λ y l. 1 ≤ l → idOf' y l ≡ id → l ≡ suc q) (h .len) i (λ a e. refl)
+        (λ y l b a e. absurd (new-id y l a b (sym (old-place (G .idOf) id y l b) ∙ e)))
 
     injective : (y l : ℕ) → l ≤ h' .len y → (m : ℕ) → m ≤ h' .len y → 1 ≤ l → 1 ≤ m → idOf' y l ≡ idOf' y m → l ≡ m
     injective =
@@ -137,7 +144,8 @@ module _ (O : Ops) where
     ids : IdsOk O G' h' next'
     ids =
         record {
-          idOf-pos = λ y l a b. place-ind (λ y l. 1 ≤ l → idOf' y l .position ≡ y) (h .len) i (λ a. rw (upd2-same (G .idOf) i (suc q) id)) (λ y l b a. rw (old-place (G .idOf) id y l b) (I .ids .idOf-pos y l a b)) y l b a;
+          idOf-pos = λ y l a b. place-ind (λ y l. 1 ≤ l → idOf' y l .position ≡ y) (h .len) i (λ a. rw (upd2-same (G .idOf) i (suc q) id))
+              (λ y l b a. rw (old-place (G .idOf) id y l b) (I .ids .idOf-pos y l a b)) y l b a;
           idOf-inj = λ y l m a b a' b'. injective y l b m b' a a';
           idOf-old = λ y l a b. place-ind (λ y l. 1 ≤ l → idOf' y l .number .0 < next' (idOf' y l .client)) (h .len) i
               (λ a. rw (upd2-same (G .idOf) i (suc q) id, upd-same (s .next) c (suc (s .next c))) (omega arith))
@@ -163,7 +171,8 @@ module _ (O : Ops) where
             prev = previous (unwritten .newest (P .high));
             last = upd-same (h .last) c (some (record { pos = i; place = suc q }));
             in-done = λ j a b e f. clash f (not-in j a b);
-            not-done = λ j a b e f. rw (upd2-pos (G .inBlock) i i (suc q) j i (apart j a)) (I .node j .live (norm-live (s .op j) b) .between i (record { pos = P; sees = inr a }) .most);
+            not-done = λ j a b e f. rw (upd2-pos (G .inBlock) i i (suc q) j i (apart j a))
+                (I .node j .live (norm-live (s .op j) b) .between i (record { pos = P; sees = inr a }) .most);
           };
         }
       where
@@ -183,15 +192,17 @@ module _ (O : Ops) where
     hands : (d : ℕ) (w : Write) → hand' d ≡ some w → HandOk O G' h' (s .op) d (difference' d) w
     hands =
         each-place (λ d. (w : Write) → hand' d ≡ some w → HandOk O G' h' (s .op) d (difference' d) w) c
-        (rw (upd-same (s .hand) c (some (newWrite s c i)), upd-same (s .difference) c (diff v (s .block i))) (λ w e. subst (HandOk O G' h' (s .op) c (diff v (s .block i))) (some-same e) mine))
+        (rw (upd-same (s .hand) c (some (newWrite s c i)), upd-same (s .difference) c (diff v (s .block i)))
+        (λ w e. subst (HandOk O G' h' (s .op) c (diff v (s .block i))) (some-same e) mine))
         (λ d ne. rw (upd-other (s .hand) c (some (newWrite s c i)) d ne, upd-other (s .difference) c (diff v (s .block i)) d ne)
-        (λ w e. entered-hand O L I takes enters d (s .difference d) w (upd-other (h .last) c (some (record { pos = i; place = suc q })) d ne) (λ p a b t f. another p (w .id .position) a f) (I .hand d w e)))
+        (λ w e. entered-hand O L I takes enters d (s .difference d) w (upd-other (h .last) c (some (record { pos = i; place = suc q })) d ne)
+        (λ p a b t f. another p (w .id .position) a f) (I .hand d w e)))
       where
         another : (p y : ℕ) → suc p ≤ h .len y → y ≡ i → p ≢ q
         another p y a e f = let b : suc p ≤ q = rw e at a in omega arith
 
-    finisheds : (d : ℕ) → FinishedOk O G' h' d (next' d) (s .finished d)
-    finisheds d =
+    finished-lists : (d : ℕ) → FinishedOk O G' h' d (next' d) (s .finished d)
+    finished-lists d =
         record {
           done = λ x e y l a b. place-ind (λ y l. 1 ≤ l → idOf' y l ≡ x → h .done y l ≡ true) (h .len) i
               (λ a t. absurd (not-new x e (sym (upd2-same (G .idOf) i (suc q) id) ∙ t)))
@@ -208,8 +219,8 @@ module _ (O : Ops) where
 
     swap-inv : Inv O G' h' (swapped s c i v)
     swap-inv =
-        entered-inv O L I takes enters next' hand' difference' (s .finished)
-        ids hands finisheds
+        entered-inv O L I takes enters next' hand' difference' (s .finished) ids hands finished-lists
 
-  pub swap-good : Laws O → (h : Ledger B) (s : Columns B) (c i : ℕ) (v : B) → Good O h s → IsPos O i → isNorm (s .op i) ≡ true → isUnl (s .lock i) ≡ true → Good O (noteSwap h c i v) (swapped s c i v)
+  pub swap-good : Laws O → (h : Ledger B) (s : Columns B) (c i : ℕ) (v : B) → Good O h s → IsPos O i →
+      isNorm (s .op i) ≡ true → isUnl (s .lock i) ≡ true → Good O (noteSwap h c i v) (swapped s c i v)
   swap-good L h s c i v g P norm unl = record { ghost = _; inv = swap-inv L (g .inv) c i v P norm unl }

@@ -27,7 +27,8 @@ module _ (O : Ops) where
     pub old : (i l : ℕ) → 1 ≤ l → l ≤ h .len i → isOldIn (G .idOf i l) es' ≡ true → (isOldIn (G .idOf i l) es ≡ true) ⊎ (h .done i l ≡ true)
     pub last : (i : ℕ) → lastRecent es ≡ Id (G .idOf i (h .len i)) → (lastRecent es' ≡ Id (G .idOf i (h .len i))) ⊎ (h .done i (h .len i) ≡ true)
 
-  tidied-node : (G : Ghost) (h : Ledger B) (j : ℕ) (b : B) (o : Opmode) (e : ℕ) (es es' : List Entry) → Tidied G h es es' → NodeOk O G h j b o e es → NodeOk O G h j b o e es'
+  tidied-node : (G : Ghost) (h : Ledger B) (j : ℕ) (b : B) (o : Opmode) (e : ℕ) (es es' : List Entry) →
+      Tidied G h es es' → NodeOk O G h j b o e es → NodeOk O G h j b o e es'
   tidied-node G h j b o e es es' T N =
       record {
         live = N .live;
@@ -49,7 +50,8 @@ module _ (O : Ops) where
       old i l a c (inl t) = N .list .old i l a c t
       old i l a c (inr t) = t
 
-      newest : (lastRecent es ≡ Id (G .idOf j (h .len j))) ⊎ (h .done j (h .len j) ≡ true) → (lastRecent es' ≡ Id (G .idOf j (h .len j))) ⊎ (h .done j (h .len j) ≡ true)
+      newest : (lastRecent es ≡ Id (G .idOf j (h .len j))) ⊎ (h .done j (h .len j) ≡ true) →
+          (lastRecent es' ≡ Id (G .idOf j (h .len j))) ⊎ (h .done j (h .len j) ≡ true)
       newest (inl t) = T .last j t
       newest (inr t) = inr t
 
@@ -116,7 +118,8 @@ module _ (O : Ops) where
       done : (i y : ℕ) → 1 ≤ y → y ≤ h .len i → isIn (idOf i y) fin ≡ true → h .done i y ≡ true
       done i y a b q = g .inv .finished c .done (idOf i y) q i y a b refl
 
-      old : (i y : ℕ) → 1 ≤ y → y ≤ h .len i → isOldIn (idOf i y) (markOld fin es) ≡ true → (isIn (idOf i y) fin ≡ true) ⊎ (isIn (idOf i y) fin ≡ false) → (isOldIn (idOf i y) es ≡ true) ⊎ (h .done i y ≡ true)
+      old : (i y : ℕ) → 1 ≤ y → y ≤ h .len i → isOldIn (idOf i y) (markOld fin es) ≡ true → (isIn (idOf i y) fin ≡ true) ⊎ (isIn (idOf i y) fin ≡ false) →
+          (isOldIn (idOf i y) es ≡ true) ⊎ (h .done i y ≡ true)
       old i y a b t (inl q) = inr (done i y a b q)
       old i y a b t (inr q) = inl (sym (old-mark (idOf i y) fin es q) ∙ t)
 
@@ -124,7 +127,8 @@ module _ (O : Ops) where
       last i zero e t = inr (g .inv .ids .zero-done i)
       last i (suc y) e t = go (bool-cases (isIn (idOf i (suc y)) fin))
         where
-          go : (isIn (idOf i (suc y)) fin ≡ true) ⊎ (isIn (idOf i (suc y)) fin ≡ false) → (lastRecent (markOld fin es) ≡ Id (idOf i (suc y))) ⊎ (h .done i (suc y) ≡ true)
+          go : (isIn (idOf i (suc y)) fin ≡ true) ⊎ (isIn (idOf i (suc y)) fin ≡ false) →
+              (lastRecent (markOld fin es) ≡ Id (idOf i (suc y))) ⊎ (h .done i (suc y) ≡ true)
           go (inl q) = inr (done i (suc y) (omega arith) (omega arith) q)
           go (inr q) = inl (last-mark fin (idOf i (suc y)) es t q)
 
@@ -139,7 +143,8 @@ module _ (O : Ops) where
           node = I .node;
           pair = I .pair;
           hand = I .hand;
-          finished = upd-ind (λ d l. FinishedOk O (g .ghost) h d (s .next d) l) (s .finished) c [] (record { done = λ x t. in-nil x t; client = λ x t. in-nil x t; number = λ x t. in-nil x t }) (λ d e. I .finished d);
+          finished = upd-ind (λ d l. FinishedOk O (g .ghost) h d (s .next d) l) (s .finished) c []
+              (record { done = λ x t. in-nil x t; client = λ x t. in-nil x t; number = λ x t. in-nil x t }) (λ d e. I .finished d);
           unl = I .unl;
           weak = I .weak;
           phase = I .phase;

@@ -132,7 +132,7 @@ c8 = rebuiltAfter 1 (halfWritten ++ (Fail 1 (9 ∷ []) ∷ []))
 abbrev pub d8 : List ℕ
 d8 = 2 ∷ 3 ∷ 1 ∷ 0 ∷ 142 ∷ 244 ∷ 1 ∷ 1 ∷ []
 
--- the one list: proofs/Examples shows that the two are equal
+-- the one list: proofs/Starred shows that the two are equal
 abbrev pub definitions : List (List ℕ)
 definitions = c1 ∷ c2 ∷ c3 ∷ c4 ∷ c5 ∷ c6 ∷ c7 ∷ c8 ∷ []
 
