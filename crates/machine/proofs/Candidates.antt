@@ -54,8 +54,8 @@ module _ (nodes : List Node) (x : WriteId) where
       (λ q t. go (and-both (isRecent e) (not (oldSomewhere nodes (e .id))) q .0) (from-f es) (or-one (sameId (e .id) x) (isIn x (recentIds nodes es)) t))
       (λ q t. or-right (isRecent e && sameId (e .id) x) (isRecentIn x es) (from-f es t))
     where
-      go : isRecent e ≡ true → (isIn x (recentIds nodes es) ≡ true → isRecentIn x es ≡ true) → (sameId (e .id) x ≡ true) ⊎ (isIn x (recentIds nodes es) ≡ true) →
-          isRecentIn x (e ∷ es) ≡ true
+      go : isRecent e ≡ true → (isIn x (recentIds nodes es) ≡ true → isRecentIn x es ≡ true) →
+          (sameId (e .id) x ≡ true) ⊎ (isIn x (recentIds nodes es) ≡ true) → isRecentIn x (e ∷ es) ≡ true
       go r later (inl t) = or-left (isRecent e && sameId (e .id) x) (isRecentIn x es) (rw (r, t))
       go r later (inr t) = or-right (isRecent e && sameId (e .id) x) (isRecentIn x es) (later t)
 

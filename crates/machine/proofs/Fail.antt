@@ -1,23 +1,23 @@
 -- The failure of a node keeps the invariant. Assumes nothing.
 use mathlib.Core.Path.{_≡_, refl, sym, _∙_}
-use mathlib.Core.Logic.{_≢_, inl}
+use mathlib.Core.Logic.{_≢_}
 use mathlib.Core.Bool.{true, false}
 use mathlib.Core.List.{[]}
 use mathlib.Core.Option.{some}
 use Prim.Native.Nat.{ℕ}
-use native.Mathlib.Omega.{arith}
 use Rattle.code.specs.Decode.{has, noNodes}
 use Rattle.records.specs.declared.Opmode.{Opmode}
 use Rattle.records.specs.declared.Opmode.the-variants.{Init}
 use Rattle.records.specs.Node.{isInit, isNorm, isRecons}
 use Rattle.records.specs.Client.{Write, Rebuild, NoRebuild, Locking, Picking, Writing, Settling, Unlocking}
 use Rattle.machine.proofs.Base.{upd, upd-same, upd-other, upd-ind, each-place, clash}
-use Rattle.machine.proofs.EntryLaws.{listed-nil, old-nil}
+use Rattle.machine.proofs.EntryLaws.{listed-nil}
 use Rattle.machine.proofs.Columns.{Ops, Lock, Unl, Columns, setBlocks, setOps, setLocks, setEpochs, setRsets, setEntries}
 use Rattle.machine.proofs.Ledger.{Ledger, noteFail}
 use Rattle.machine.proofs.Invariant.{Ghost, Laws, IsNode, NodeOk, PairOk, HandOk, PhaseOk, RebuildOk, Inv, Good}
-use Rattle.machine.proofs.Frame.{recons-live, norm-live, Grown, node-frame, hand-frame}
+use Rattle.machine.proofs.Frame.{recons-live, norm-live}
 use Rattle.machine.proofs.Sets.{no-nodes}
+use Rattle.machine.proofs.Progress.{between-step, empty-list, ids-step, finished-step, node-step, hand-step}
 
 module _ (O : Ops) where
   open Ops O using (B)
@@ -49,26 +49,6 @@ module _ (O : Ops) where
         }
 
     ---- the nodes
-    other : (j : ℕ) → x ≢ j → Grown O G G' h h' j (s .op j) (s .entries j)
-    other j d =
-        record {
-          base = refl;
-          inBlock = λ i. refl;
-          inList = λ i. rw (upd-other (G .inList) x (λ i. 0) j d);
-          cut = λ r i. refl;
-          cuts = λ r i q b. record { most = b .most; least = b .least };
-          isSettled = upd-other (G .isSettled) x false j d;
-          begun = λ t. t;
-          val = λ i l b. refl;
-          idOf = λ i l b. refl;
-          len = λ i. omega arith;
-          own = λ t. refl;
-          done = λ i l t. t;
-          least = λ a i l q t. inl t;
-          new = λ i l a b. inl b;
-          failed = λ t. refl;
-        }
-
     nothing-listed : (i : ℕ) → G' .inList x i ≡ 0
     nothing-listed i = rw (upd-same (G .inList) x (λ i. 0))
 
@@ -79,13 +59,7 @@ module _ (O : Ops) where
           unwritten = λ t. clash t refl;
           written = λ t. clash t refl;
           settled = λ t. clash t (upd-same (G .isSettled) x false);
-          list = record {
-            short = λ i. rw (nothing-listed i) (omega arith);
-            listed = λ y t. listed-nil y t;
-            mine = λ y t. listed-nil y t;
-            undone = λ i l q a b. let z = nothing-listed i in absurd (omega arith);
-            old = λ i l a b t. old-nil (G .idOf i l) t;
-          };
+          list = empty-list O G' h' x [] nothing-listed (λ y t. listed-nil y t);
           init = λ t a b. refl;
           bare = λ t. nothing-listed;
         }
@@ -95,7 +69,14 @@ module _ (O : Ops) where
         each-place (λ j. NodeOk O G' h' j (s' .block j) (s' .op j) (s' .epoch j) (s' .entries j)) x
         (rw (upd-same (s .block) x v, upd-same (s .op) x Init, upd-same (s .epoch) x 0, upd-same (s .entries) x []) itself)
         (λ j d. rw (upd-other (s .block) x v j d, upd-other (s .op) x Init j d, upd-other (s .epoch) x 0 j d, upd-other (s .entries) x [] j d)
-        (node-frame O L G G' h h' j (s .block j) (s .op j) (s .epoch j) (s .entries j) (other j d) (I .node j)))
+        (node-step O G' h' L (λ t. refl)
+        (record {
+          inBlock = λ i. refl;
+          inList = λ i. rw (upd-other (G .inList) x (λ i. 0) j d);
+          isSettled = upd-other (G .isSettled) x false j d;
+          cut = λ r i. refl;
+          begun = λ t. t;
+        }) (I .node j)))
 
     ---- a node that is live is not x, and as it was
     not-x : (j : ℕ) → isInit (s' .op j) ≡ false → x ≢ j
@@ -136,20 +117,7 @@ module _ (O : Ops) where
             (λ j d t. rw (upd-other (s .op) x Init j d) (I .pair j l .only (rset-was j t)))
 
     hand : (c : ℕ) (w : Write) → s .hand c ≡ some w → HandOk O G' h' (s' .op) c (s .difference c) w
-    hand c w e =
-        hand-frame O G G' h h' (s .op) (s' .op) c (s .difference c) w
-        (record {
-          base = refl;
-          val = λ i l b. refl;
-          idOf = λ i l b. refl;
-          len = λ i. omega arith;
-          done = λ i l t. t;
-          still = λ b o q a t f. f;
-          last = refl;
-          in-done = λ j q a b z f t r. r (norm-was j b) (sym (settled-same j b) ∙ z);
-          not-done = λ j q a b z f t v r. r (norm-was j b) (sym (settled-same j b) ∙ z);
-        })
-        (I .hand c w e)
+    hand c w e = hand-step O G' h' (s' .op) (λ j t z. (norm-was j t, sym (settled-same j t) ∙ z, λ i. refl)) (I .hand c w e)
 
     ---- the phases: nobody holds the failed node
     phase-x : (c j : ℕ) (p : Rebuild) (o : Opmode) (l : Lock) (e : ℕ) → PhaseOk O G c p j o l e → PhaseOk O G' c p j Init Unl 0
@@ -191,7 +159,7 @@ module _ (O : Ops) where
     rebuild c (Writing y u z) r =
         record {
           epoch = r .epoch;
-          between = λ i p. let b = r .between i p in record { most = b .most; least = b .least };
+          between = λ i p. between-step O h' (r .between i p);
           low = r .low;
           high = r .high;
           spare = r .spare;
@@ -203,18 +171,11 @@ module _ (O : Ops) where
     fail-inv : Inv O G' h' s'
     fail-inv =
         record {
-          ids = record {
-            idOf-pos = I .ids .idOf-pos;
-            idOf-inj = I .ids .idOf-inj;
-            idOf-old = I .ids .idOf-old;
-            zero-done = I .ids .zero-done;
-            done-len = I .ids .done-len;
-            no-stale = I .ids .no-stale;
-          };
+          ids = ids-step O G' h' (I .ids);
           node = node;
           pair = pair;
           hand = hand;
-          finished = λ c. record { done = I .finished c .done; client = I .finished c .client; number = I .finished c .number };
+          finished = λ c. finished-step O G' h' (I .finished c);
           unl = λ t j i. rw (lock-was j i) (I .unl t j (live-was j i));
           weak = λ j l r i. rw (lock-was l i) (I .weak j l (rw (op-was j (recons-live (s' .op j) r)) at r) (live-was l i));
           phase = phase;

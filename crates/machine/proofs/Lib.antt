@@ -5,6 +5,7 @@ pub mod Ledger
 pub mod Invariant
 pub mod Frame
 pub mod Sets
+pub mod Progress
 pub mod Entering
 pub mod Swap
 pub mod Add
@@ -13,7 +14,6 @@ pub mod Sweep
 pub mod Fail
 pub mod Phases
 pub mod Locks
-pub mod Progress
 pub mod Pick
 pub mod Write
 pub mod Settle
@@ -26,11 +26,11 @@ pub mod CodeLaws
 pub mod KeptStart
 pub mod KeptWriting
 pub mod Elements
+pub mod Largest
 pub mod Candidates
 pub mod Relocks
 pub mod KeptRebuild
 pub mod Told
 pub mod Limits
-pub mod Largest
 pub mod Starred
 pub mod Theorem

@@ -1,5 +1,5 @@
--- What a step of a rebuild leaves alone: nothing is swapped and nothing reported done, so the ids and the values are as they were, and of the ghost
--- only where the nodes stand is new. Assumes nothing.
+-- What a step of a rebuild leaves alone, and a failure too: nothing is swapped and nothing reported done, so the ids and the values are as they were,
+-- and of the ghost only where the nodes stand is new. Assumes nothing.
 use mathlib.Core.Path.{_≡_, refl, sym, subst}
 use mathlib.Core.Logic.{_⊎_, inl}
 use mathlib.Core.Bool.{true, false}
