@@ -7,7 +7,9 @@ use native.Mathlib.Nat.{mul-le-mul-right, suc-mul, le-trans, le-of-eq}
 use native.Mathlib.Omega.{arith}
 use lib.ListN.{length, take, drop, getD, length-append, length-take, length-drop, take-append-drop}
 use lib.Seq.{length-take-le, take-at, drop-at, take-take, drop-drop, take-add, getD-take, getD-drop}
-use Rattle.blocks.specs.Blocks.{part, setPart, block, setBlock, byteAt}
+use mir.Syntax.{w8}
+use mir.Val.{Fits}
+use Rattle.blocks.specs.Blocks.{part, setPart, block, setBlock, byteAt, Bytes}
 
 pub part-length : (a n : ℕ) (t : List ℕ) → a + n ≤ length t → length (part a n t) ≡ n
 unfolding part
@@ -105,3 +107,8 @@ block-other b i j p t li lj fits many ne =
     ⊎-elim (λ (l : i < j). get-set-before ((j - 1) * b) b p t fits many ((i - 1) * b) b (block-apart i j b li l))
     (λ (l : j < i). get-set-after ((j - 1) * b) b p t fits many ((i - 1) * b) b (block-apart j i b lj l))
     (either i j ne)
+
+-- ---- what is known of a slice of u8
+
+pub bytes-of : (t : List ℕ) → ((q : ℕ) → Fits w8 (getD t q 0)) → Bytes t
+bytes-of t f = record { small = λ q. f q .fits }

@@ -9,3 +9,5 @@ pub mod NodeSets
 pub mod Sizes
 pub mod Demand2
 pub mod Members
+pub mod Combining
+pub mod Horner

@@ -2,3 +2,4 @@ pub mod Code
 pub mod Decode
 pub mod Calls
 pub mod Demand2
+pub mod Combine

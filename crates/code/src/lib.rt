@@ -2,6 +2,7 @@
 ghost use mathlib.Core.Path.{_≡_};
 ghost use Rattle.code.specs.Calls.{numberOf};
 
+mod combine; // combine.rt: sums of blocks times weights
 pub mod nodes; // nodes.rt: sets of nodes
 
 pub use nodes::NodeSet;
