@@ -11,3 +11,5 @@ pub mod Demand2
 pub mod Members
 pub mod Combining
 pub mod Horner
+pub mod Entries
+pub mod Weighing

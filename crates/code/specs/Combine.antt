@@ -8,9 +8,13 @@ use lib.ListN.{length, getD}
 use Rattle.gf256.specs.Field.{product}
 use Rattle.code.specs.Code.{sum}
 
--- byte p of the sum: place q − 1 has the start and the weight of block q
+-- entry q of a list, q from 1
+abbrev pub nth : List ℕ → ℕ → ℕ
+nth xs q = getD xs (q - 1) 0
+
+-- byte p of the sum: start q and weight q are those of block q
 abbrev pub combined : List ℕ → List ℕ → List ℕ → ℕ → ℕ
-combined t starts weights p = sum (length starts) (λ q. product (getD weights (q - 1) 0) (getD t (getD starts (q - 1) 0 + p) 0))
+combined t starts weights p = sum (length starts) (λ q. product (nth weights q) (getD t (nth starts q + p) 0))
 
 -- the starts of the blocks whose weight has bit h
 unfoldable pub withBit : ℕ → List ℕ → List ℕ → List ℕ

@@ -3,3 +3,4 @@ pub mod Decode
 pub mod Calls
 pub mod Demand2
 pub mod Combine
+pub mod Weights

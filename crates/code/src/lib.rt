@@ -3,6 +3,7 @@ ghost use mathlib.Core.Path.{_≡_};
 ghost use Rattle.code.specs.Calls.{numberOf};
 
 mod combine; // combine.rt: sums of blocks times weights
+mod weights; // weights.rt: with what weight a block counts in another
 pub mod nodes; // nodes.rt: sets of nodes
 
 pub use nodes::NodeSet;
