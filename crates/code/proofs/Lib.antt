@@ -13,3 +13,4 @@ pub mod Combining
 pub mod Horner
 pub mod Entries
 pub mod Weighing
+pub mod Mixing

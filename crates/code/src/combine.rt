@@ -1,11 +1,12 @@
 // A sum of blocks of a table, each times its weight: the fast kernel of encoding and decoding. It goes over whole blocks, from the highest bit of
 // the weights down: the sum so far is doubled, and the blocks whose weight has the bit are added. So there is no product of two bytes in it.
 ghost use mathlib.Core.Path.{_≡_};
-ghost use Prim.Native.Nat.{_<_, _≤_};
+ghost use Prim.Native.Nat.{ℕ, _-_, _*_, _<_, _≤_};
 ghost use lib.ListN.{length, take, drop};
 ghost use Rattle.blocks.specs.Blocks.{listOf};
 ghost use Rattle.blocks.specs.Sums.{plusAll};
-ghost use Rattle.code.specs.Combine.{combined, withBit, Within};
+ghost use Rattle.code.specs.Weights.{Nodes};
+ghost use Rattle.code.specs.Combine.{nth, combined, withBit, mixed, Within, Holds};
 
 // The starts of the blocks whose weight has bit h, at the front of chosen, and how many they are.
 fn choose(chosen: &mut [usize], starts: &[usize], weights: &[u8], h: usize) -> usize
@@ -74,4 +75,29 @@ pub fn combine(out: &mut [u8], t: &[u8], starts: &[usize], weights: &[u8])
         blocks::double(out);
         add_bit(out, t, starts, weights, h);
     }
+}
+
+// The starts of the nodes' blocks of b bytes.
+fn starts_of(nodes: &[u8], b: usize) -> [usize; 12]
+    requires { ⌜ Nodes (now nodes) × (b ≤ 4096) ⌝ }
+    ensures { λ r. ⌜ ((q : ℕ) → 1 ≤ q → q ≤ length (now (nodes .entry)) → nth r q ≡ (nth (now (nodes .entry)) q - 1) * b) ⌝ }
+{
+    let mut r = [0usize; 12];
+    let mut q = 0;
+    while q < nodes.len() {
+        let before = nodes[q] - 1;
+        r[q] = before as usize * b;
+        q += 1;
+    }
+    r
+}
+
+// The sum of the nodes' blocks in the table t, each times its weight.
+pub fn mix(out: &mut [u8], t: &[u8], nodes: &[u8], weights: &[u8])
+    requires { ⌜ Nodes (now nodes) × (length (now nodes) ≡ length (now weights)) × (length (now out) ≤ 4096) × Holds (length (now out)) (now t) (now nodes) ⌝ }
+    ensures { λ _. ⌜ now (out .exit) ≡ listOf (length (now (out .entry))) (mixed (length (now (out .entry))) (now (t .entry)) (now (nodes .entry)) (now (weights .entry))) ⌝ }
+{
+    let starts = starts_of(nodes, out.len());
+    let k = nodes.len();
+    combine(out, t, &starts[..k], weights);
 }
