@@ -1,5 +1,5 @@
 -- The loops of weights.rt, one turn on. Assumes nothing.
-use mathlib.Core.List.{List, [], _∷_}
+use mathlib.Core.List.{List}
 use mathlib.Core.Path.{_≡_, refl, sym, ap, _∙_}
 use mathlib.Core.Logic.{_≢_}
 use Prim.Native.Nat.{ℕ, zero, suc, _+_, _-_, _≤_, _<_}
@@ -10,10 +10,9 @@ use lib.ListN.{length, getD, take}
 use lib.Seq.{length-take-le, getD-take}
 use borrow.Author.Tests.{eq-eqb, ne-eqb}
 use Rattle.gf256.specs.Field.{product}
-use Rattle.gf256.proofs.Computed.{every, same-below}
 use Rattle.code.specs.Combine.{nth}
 use Rattle.code.specs.Decode.{others, scale}
-use Rattle.code.specs.Weights.{Nodes}
+use Rattle.code.specs.Weights.{Nodes, First}
 use Rattle.code.proofs.Sum.{All}
 
 nth-next : (xs : List ℕ) (l : ℕ) → nth xs (suc l) ≡ getD xs l 0
@@ -37,22 +36,19 @@ others-ext s r (suc k) q t e =
 
 -- ---- the data nodes, 1 to k
 
-abbrev twelve : List ℕ
-twelve = 1 ∷ 2 ∷ 3 ∷ 4 ∷ 5 ∷ 6 ∷ 7 ∷ 8 ∷ 9 ∷ 10 ∷ 11 ∷ 12 ∷ []
+module _ (nodes : List ℕ) (f : First nodes) (k : ℕ) (k12 : k ≤ 12) where
+  pub data-length : length (take k nodes) ≡ k
+  data-length = length-take-le k nodes (omega (arith, f .twelve))
 
-module _ (k : ℕ) (k12 : k ≤ 12) where
-  pub data-length : length (take k twelve) ≡ k
-  data-length = length-take-le k twelve k12
+  pub data-at : (q : ℕ) → q < k → getD (take k nodes) q 0 ≡ suc q
+  data-at q l = getD-take k nodes q 0 l ∙ f .at q (omega arith)
 
-  data-at : (l : ℕ) → l < k → getD (take k twelve) l 0 ≡ suc l
-  unfolding every
-  data-at l lk = getD-take k twelve l 0 lk ∙ same-below 12 (λ i. getD twelve i 0) suc refl l (omega arith)
+  pub data-nth : All k (λ q. nth (take k nodes) q ≡ q)
+  data-nth q q1 qk = let e : suc (q - 1) ≡ q = omega arith in data-at (q - 1) (omega arith) ∙ e
 
-  pub data-nodes : Nodes (take k twelve)
-  data-nodes = record { few = omega (arith, data-length); from = λ l l1. let e = data-length in omega (arith, data-at l (omega arith)) }
+  pub data-nodes : Nodes (take k nodes)
+  data-nodes = record { few = omega (arith, data-length); from = λ l h. omega (arith, data-at l (omega (arith, data-length))) }
 
-  pub scale-data : (j : ℕ) → others (nth (take k twelve)) (length (take k twelve)) j (j - 1) ≡ scale k j
+  pub scale-data : (j : ℕ) → others (nth (take k nodes)) (length (take k nodes)) j (j - 1) ≡ scale k j
   unfolding scale
-  scale-data j =
-      rw data-length (others-ext (nth (take k twelve)) (λ i. i) k j (j - 1)
-      (λ l l1 lk. let e : suc (l - 1) ≡ l = omega arith in data-at (l - 1) (omega arith) ∙ e))
+  scale-data j = rw data-length (others-ext (nth (take k nodes)) (λ i. i) k j (j - 1) data-nth)

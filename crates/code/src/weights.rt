@@ -5,9 +5,14 @@ ghost use lib.ListN.{length};
 ghost use Rattle.code.specs.Code;
 ghost use Rattle.code.specs.Decode;
 ghost use Rattle.code.specs.Combine.{nth};
-ghost use Rattle.code.specs.Weights.{Nodes, share};
+ghost use Rattle.code.specs.Weights.{Nodes, First, share};
 
-const DATA_NODES: [u8; 12] = [1, 2, 3, 4, 5, 6, 7, 8, 9, 10, 11, 12];
+// The nodes that can hold data.
+pub fn data_nodes() -> [u8; 12]
+    ensures { λ r. ⌜ First r ⌝ }
+{
+    [1, 2, 3, 4, 5, 6, 7, 8, 9, 10, 11, 12]
+}
 
 // c(j,i).
 pub fn coefficient(j: usize, i: usize) -> u8
@@ -52,7 +57,7 @@ fn scale(k: usize, j: usize) -> u8
     requires { ⌜ (k ≤ 12) × (1 ≤ j) × (j ≤ 256) ⌝ }
     ensures { λ r. ⌜ r ≡ Decode.scale k j ⌝ }
 {
-    let data = DATA_NODES;
+    let data = data_nodes();
     others(&data[..k], j, (j - 1) as u8)
 }
 
