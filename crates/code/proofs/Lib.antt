@@ -14,3 +14,5 @@ pub mod Horner
 pub mod Entries
 pub mod Weighing
 pub mod Mixing
+pub mod Encoded
+pub mod Limits

@@ -47,3 +47,10 @@ module _ (b : ℕ) (t nodes r : List ℕ) (is : Nodes nodes) (long : length node
       (λ p l.
       ap (λ k. sum k (λ q. product (nth weights q) (getD t (nth starts q + p) 0))) starts-length
       ∙ sum-ext (length nodes) _ _ (λ q q1 qk. rw (starts-at q q1 qk)))
+
+-- the first k weights and nodes, as functions
+pub mixed-is : (b : ℕ) (t nodes weights : List ℕ) (k : ℕ) (w s : ℕ → ℕ) → length nodes ≡ k → All k (λ q. nth weights q ≡ w q) → All k (λ q. nth nodes q ≡ s q)
+    → (p : ℕ) → mixed b t nodes weights p ≡ sum k (λ q. product (w q) (byteAt b t (s q) p))
+mixed-is b t nodes weights k w s e ew es p =
+    ap (λ k. sum k (λ q. product (nth weights q) (byteAt b t (nth nodes q) p))) e
+    ∙ sum-ext k _ _ (λ q q1 qk. rw (ew q q1 qk, es q q1 qk))
