@@ -34,3 +34,4 @@ pub mod Told
 pub mod Limits
 pub mod Starred
 pub mod Theorem
+pub mod Witness
