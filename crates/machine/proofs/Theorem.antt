@@ -147,12 +147,31 @@ module _ (z : Sizes) (within : sizesWithin z ≡ true) where
     plain no-swap no-settle k =
         record {
           kept = k;
-          swapped = λ c i v is. clash (ap isSwap is) (cond-ind (λ K. isSwap K ≡ false) (accepted (eventOf x (step z x s))) (kind x) Other (λ t. no-swap) (λ t. refl));
+          swapped = λ c i v is.
+              clash (ap isSwap is) (cond-ind (λ K. isSwap K ≡ false) (accepted (eventOf x (step z x s))) (kind x) Other (λ t. no-swap) (λ t. refl));
           rebuilt = λ F. clash (ap isSettle (F .settle)) no-settle;
         }
 
-  known-call : (h : Ledger Block) (s : Stripe) → Good (ops z) h (columns z s) → Fits z s → (x : Call) → Bytes (valueOf x) → Known-call z h x (step z x s)
+  known-swap : (h : Ledger Block) (s : Stripe) → Good (ops z) h (columns z s) → Fits z s → (c i : ℕ) (value : List ℕ) → Bytes value →
+      Known-call z h (Swap c i value) (step z (Swap c i value) s)
   unfolding step
+  known-swap h s g fit c i value bytes =
+      record {
+        kept = swap-kept z L h s g fit c i value bytes;
+        swapped = λ d l v is. swapped d l v (bool-cases (accepted e)) is;
+        rebuilt = λ F. clash (ap isSettle (F .settle)) refl;
+      }
+    where
+      e : Event
+      e = eventOf (Swap c i value) (step z (Swap c i value) s)
+
+      swapped : (d l : ℕ) (v : List ℕ) → (accepted e ≡ true) ⊎ (accepted e ≡ false) → happened e ≡ SwapInto d l v → (length v ≡ z .b) × Bytes v
+      swapped d l v (inl t) is =
+          let same : value ≡ v = the-value (rw t at is) in
+          (subst (λ u. length u ≡ z .b) same (swap-long c i value (atNode i c s) t), subst Bytes same bytes)
+      swapped d l v (inr t) is = clash (ap isSwap (rw t at is)) refl
+
+  known-call : (h : Ledger Block) (s : Stripe) → Good (ops z) h (columns z s) → Fits z s → (x : Call) → Bytes (valueOf x) → Known-call z h x (step z x s)
   known-call h s g fit = by
     where
       quiet : (x : Call) → isSwap (kind x) ≡ false → isSettle (kind x) ≡ false → Kept z h x (step z x s) → Known-call z h x (step z x s)
@@ -160,19 +179,7 @@ module _ (z : Sizes) (within : sizesWithin z ≡ true) where
 
       by : (x : Call) → Bytes (valueOf x) → Known-call z h x (step z x s)
       by (Read i) bytes = quiet (Read i) refl refl (read-kept z L h s g fit i)
-      by (Swap c i value) bytes =
-          record {
-            kept = swap-kept z L h s g fit c i value bytes;
-            swapped = λ d l v is. swapped d l v (bool-cases (accepted (eventOf (Swap c i value) (step z (Swap c i value) s)))) is;
-            rebuilt = λ F. clash (ap isSettle (F .settle)) refl;
-          }
-        where
-          long : accepted (eventOf (Swap c i value) (step z (Swap c i value) s)) ≡ true → length value ≡ z .b
-          long t = swap-long c i value (atNode i c s) t
-
-          swapped : (d l : ℕ) (v : List ℕ) → (accepted (eventOf (Swap c i value) (step z (Swap c i value) s)) ≡ true) ⊎ (accepted (eventOf (Swap c i value) (step z (Swap c i value) s)) ≡ false) → happened (eventOf (Swap c i value) (step z (Swap c i value) s)) ≡ SwapInto d l v → (length v ≡ z .b) × Bytes v
-          swapped d l v (inl t) is = let same : value ≡ v = the-value (rw t at is) in (subst (λ u. length u ≡ z .b) same (long t), subst Bytes same bytes)
-          swapped d l v (inr t) is = clash (ap isSwap (rw t at is)) refl
+      by (Swap c i value) bytes = known-swap h s g fit c i value bytes
       by (Add c j) bytes = quiet (Add c j) refl refl (add-kept z L h s g fit c j)
       by (Check c j) bytes = quiet (Check c j) refl refl (check-kept z L h s g fit c j)
       by (Drop c) bytes = quiet (Drop c) refl refl (drop-kept z L h s g fit c)
@@ -187,7 +194,9 @@ module _ (z : Sizes) (within : sizesWithin z ≡ true) where
       by (Settle c) bytes =
           record {
             kept = settle-kept z L h s g fit c;
-            swapped = λ d l v is. clash (ap isSwap is) (cond-ind (λ K. isSwap K ≡ false) (accepted (eventOf (Settle c) (step z (Settle c) s))) (SettleBy c) Other (λ t. refl) (λ t. refl));
+            swapped = λ d l v is.
+                clash (ap isSwap is)
+                (cond-ind (λ K. isSwap K ≡ false) (accepted (eventOf (Settle c) (step z (Settle c) s))) (SettleBy c) Other (λ t. refl) (λ t. refl));
             rebuilt = λ F. settle-rebuilt z L h s g fit c (F .is-accepted);
           }
       by (Unlock c) bytes = quiet (Unlock c) refl refl (unlock-kept z L h s g fit c)
@@ -224,7 +233,8 @@ module _ (z : Sizes) (within : sizesWithin z ≡ true) where
           told = told-start z;
           holds = record {
             rebuilt = λ e past is. no-event is;
-            steady = last-values z within (noLedger (ops z)) [] (told-start z) (start z spare differences .stripe .blocks) (fits .blocks) (fits .blocks-bytes) (good .inv .ids .no-stale)
+            steady = last-values z within (noLedger (ops z)) [] (told-start z) (start z spare differences .stripe .blocks) (fits .blocks)
+                (fits .blocks-bytes) (good .inv .ids .no-stale)
                 (steady (ops z) L (noLedger (ops z)) (columns z (start z spare differences .stripe)) good);
           };
         }

@@ -96,4 +96,5 @@ pub record Holds (z : Sizes) (run : Run) : Type 0 where
 abbrev pub Demand3 : Type 0
 Demand3 =
     (z : Sizes) → sizesWithin z ≡ true → (spare differences : List ℕ) → length spare ≡ z .n * z .b → length differences ≡ z .m * z .b →
-    Bytes spare → Bytes differences → (calls : List Request) → AllAllowed z calls (start z spare differences) → Holds z (play calls (start z spare differences))
+    Bytes spare → Bytes differences → (calls : List Request) → AllAllowed z calls (start z spare differences) →
+    Holds z (play calls (start z spare differences))

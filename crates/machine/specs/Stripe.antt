@@ -21,7 +21,13 @@ pub record Stripe : Type 0 where
 -- "Fresh: zero blocks and counts, NORM, UNL, empty lists"; "with any bytes in the spare and the differences"
 abbrev pub fresh : Sizes → List ℕ → List ℕ → Stripe
 fresh z spare differences =
-    record { nodes = replicate (z .n) freshNode; clients = replicate (z .m) freshClient; blocks = replicate (z .n * z .b) 0; spare = spare; differences = differences }
+    record {
+      nodes = replicate (z .n) freshNode;
+      clients = replicate (z .m) freshClient;
+      blocks = replicate (z .n * z .b) 0;
+      spare = spare;
+      differences = differences;
+    }
 
 -- element j of a list, j from 1; outside the list d
 unfoldable pub elementAt : {A : Type 0} → A → List A → ℕ → A
