@@ -1,15 +1,22 @@
--- A loop that writes a table block by block: after j turns the first j blocks are there. Assumes nothing.
+-- A list by its bytes; and a loop that writes a table block by block: after j turns the first j blocks are there. Assumes nothing.
 use mathlib.Core.List.{List, _++_}
 use mathlib.Core.Path.{_≡_, refl, sym, ap, ap₂, _∙_}
 use Prim.Native.Nat.{ℕ, zero, suc, _+_, _*_, _≤_, _<_}
 use native.Mathlib.Nat.{zero-mul, suc-mul, mul-le-mul-right}
 use native.Mathlib.Numerals.{add-one}
 use native.Mathlib.Omega.{arith}
-use lib.ListN.{length, take}
-use lib.Seq.{take-all}
+use lib.ListN.{length, getD, take}
+use lib.Seq.{take-all, ext-getD}
 use Rattle.blocks.specs.Blocks.{setPart, listOf, table}
 use Rattle.blocks.proofs.Parts.{set-length, take-set}
-use Rattle.blocks.proofs.Tables.{length-listOf}
+use Rattle.blocks.proofs.Tables.{length-listOf, getD-listOf}
+
+pub listOf-is : (b : ℕ) (f : ℕ → ℕ) (d : List ℕ) → length d ≡ b → ((p : ℕ) → p < b → getD d p 0 ≡ f p) → d ≡ listOf b f
+listOf-is b f d l e =
+    ext-getD 0 d (listOf b f) (l ∙ sym (length-listOf b f))
+    (λ p lp. let lb : p < b = omega arith in e p lb ∙ sym (getD-listOf b f p 0 lb))
+
+-- ---- the loop
 
 pub record Tabled (m b : ℕ) (f : ℕ → ℕ → ℕ) (j : ℕ) (out : List ℕ) : Type 0 where
   pub size : length out ≡ m * b

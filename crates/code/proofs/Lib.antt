@@ -16,3 +16,4 @@ pub mod Weighing
 pub mod Mixing
 pub mod Encoded
 pub mod Limits
+pub mod Restored

@@ -5,6 +5,7 @@ ghost use Rattle.code.specs.Calls.{numberOf, encoding};
 
 mod combine; // combine.rt: sums of blocks times weights
 mod encoding; // encoding.rt: the redundant blocks
+mod recovering; // recovering.rt: blocks from those of k nodes
 mod weights; // weights.rt: with what weight a block counts in another
 pub mod nodes; // nodes.rt: sets of nodes
 
