@@ -1,8 +1,8 @@
 -- A list by its bytes; and a loop that writes a table block by block: after j turns the first j blocks are there. Assumes nothing.
 use mathlib.Core.List.{List, _++_}
 use mathlib.Core.Path.{_≡_, refl, sym, ap, ap₂, _∙_}
-use Prim.Native.Nat.{ℕ, zero, suc, _+_, _*_, _≤_, _<_}
-use native.Mathlib.Nat.{zero-mul, suc-mul, mul-le-mul-right}
+use Prim.Native.Nat.{ℕ, zero, suc, _+_, _-_, _*_, _≤_, _<_}
+use native.Mathlib.Nat.{add-sub-cancel-left, zero-mul, suc-mul, mul-le-mul-right}
 use native.Mathlib.Numerals.{add-one}
 use native.Mathlib.Omega.{arith}
 use lib.ListN.{length, getD, take}
@@ -31,14 +31,16 @@ module _ (m b : ℕ) (f : ℕ → ℕ → ℕ) (out : List ℕ) where
   pub tabled-fits : (j : ℕ) → j < m → Tabled m b f j out → j * b + b ≤ length out
   tabled-fits j l t = omega (arith, t .size, suc-mul j b, mul-le-mul-right b l)
 
-  pub tabled-turn : (j : ℕ) (p next : List ℕ) → j < m → Tabled m b f j out → p ≡ listOf b (f (suc j)) → next ≡ setPart (j * b) b p out → Tabled m b f (j + 1) next
+  -- that block as the code lends it, from j * b up to j * b + b, comes back as p
+  pub tabled-turn : (j : ℕ) (p : List ℕ) → j < m → Tabled m b f j out → p ≡ listOf b (f (suc j)) → Tabled m b f (j + 1) (setPart (j * b) (j * b + b - j * b) p out)
   unfolding table
-  tabled-turn j p next l t ep en =
+  tabled-turn j p l t e =
       let fits : j * b + b ≤ length out = tabled-fits j l t in
-      let many : length p ≡ b = ap length ep ∙ length-listOf b (f (suc j)) in
+      let many : length p ≡ b = ap length e ∙ length-listOf b (f (suc j)) in
+      rw (add-sub-cancel-left (j * b) b)
       record {
-        size = ap length en ∙ set-length (j * b) b p out fits many ∙ t .size;
-        blocks = rw (add-one j, suc-mul j b, en) (take-set (j * b) b p out fits many ∙ ap₂ _++_ (t .blocks) ep);
+        size = set-length (j * b) b p out fits many ∙ t .size;
+        blocks = rw (add-one j, suc-mul j b) (take-set (j * b) b p out fits many ∙ ap₂ _++_ (t .blocks) e);
       }
 
   pub tabled-all : (j : ℕ) → j ≡ m → Tabled m b f j out → out ≡ table m b f

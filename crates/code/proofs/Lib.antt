@@ -17,3 +17,4 @@ pub mod Mixing
 pub mod Encoded
 pub mod Limits
 pub mod Restored
+pub mod Lowest
