@@ -18,3 +18,5 @@ pub mod Encoded
 pub mod Limits
 pub mod Restored
 pub mod Lowest
+pub mod Given
+pub mod Decoded

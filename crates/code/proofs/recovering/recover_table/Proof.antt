@@ -35,7 +35,7 @@ returns c =
     let r = at-members .members .result in
     let k = at-start .args .k in
     let pre = at-start .pre in
-    c .before .before .recover-all .ensures ∙ lowest-restored s r (at-members .members .ensures) k (pre .1) (pre .0) (omega arith) (at-start .args .m) (at-start .args .b) (at-start .args .blocks .now)
+    rw (c .before .before .recover-all .ensures) (lowest-restored s r (at-members .members .ensures) k (pre .1) (pre .0) (omega arith) (at-start .args .m) (at-start .args .b) (at-start .args .blocks .now))
 
 pub recover-table-spec : {M : Type 1} → statement M
 recover-table-spec =
