@@ -75,15 +75,3 @@ zip-turn f i v old src now lo ls filled e =
 
 pub zip-all : (f : ℕ → ℕ → ℕ) (i : ℕ) (old src now : List ℕ) → length old ≤ i → Filled i (zip f old src) old now → now ≡ zip f old src
 zip-all f i old src now l filled = filled-all i (zip f old src) old now (zip-length f old src) filled l
-
--- four sums at once
-module _ (f : ℕ → ℕ → ℕ) (d s t u v : List ℕ) where
-  pub four-length : length (zip f (zip f (zip f (zip f d s) t) u) v) ≡ length d
-  four-length = simp zip-length
-
-  pub four-at : (i : ℕ) → i < length d → i < length s → i < length t → i < length u → i < length v
-      → getD (zip f (zip f (zip f (zip f d s) t) u) v) i 0 ≡ f (f (f (f (getD d i 0) (getD s i 0)) (getD t i 0)) (getD u i 0)) (getD v i 0)
-  four-at i ld ls lt lu lv =
-      zip-at f (zip f (zip f (zip f d s) t) u) v i (simp zip-length ld) lv
-      ∙ rw (zip-at f (zip f (zip f d s) t) u i (simp zip-length ld) lu)
-      (rw (zip-at f (zip f d s) t i (simp zip-length ld) lt) (rw (zip-at f d s i ld ls)))

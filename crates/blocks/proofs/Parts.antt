@@ -3,15 +3,22 @@ use mathlib.Core.Path.{_≡_, refl, sym, ap, _∙_}
 use mathlib.Core.Logic.{⊎-elim, _⊎_, inl, inr}
 use mathlib.Core.List.{List, [], _∷_, _++_, append-assoc}
 use Prim.Native.Nat.{ℕ, zero, suc, _+_, _-_, _*_, _≤_, _<_}
-use native.Mathlib.Nat.{mul-le-mul-right, suc-mul, le-trans, le-of-eq}
+use native.Mathlib.Nat.{add-sub-cancel-left, mul-le-mul-right, suc-mul, le-trans, le-of-eq}
 use native.Mathlib.Omega.{arith}
 use lib.ListN.{length, take, drop, getD, length-append, length-take, length-drop, take-append-drop}
 use lib.Seq.{length-take-le, take-at, drop-at, take-take, drop-drop, take-add, getD-take, getD-drop}
-use Rattle.blocks.specs.Blocks.{part, setPart, block, setBlock, byteAt}
+use mir.Syntax.{w8}
+use mir.Val.{Fits}
+use Rattle.blocks.specs.Blocks.{part, setPart, block, setBlock, byteAt, Bytes}
 
 pub part-length : (a n : ℕ) (t : List ℕ) → a + n ≤ length t → length (part a n t) ≡ n
 unfolding part
 part-length a n t fits = length-take-le n (drop a t) (rw length-drop (omega arith))
+
+-- a part as the code lends it, from a up to a + n
+pub lent-length : (a n : ℕ) (t : List ℕ) → a + n ≤ length t → length (take (a + n - a) (drop a t)) ≡ n
+unfolding part
+lent-length a n t fits = rw (add-sub-cancel-left a n) (part-length a n t fits)
 
 pub part-at : (a n : ℕ) (t : List ℕ) (i : ℕ) → i < n → getD (part a n t) i 0 ≡ getD t (a + i) 0
 unfolding part
@@ -105,3 +112,8 @@ block-other b i j p t li lj fits many ne =
     ⊎-elim (λ (l : i < j). get-set-before ((j - 1) * b) b p t fits many ((i - 1) * b) b (block-apart i j b li l))
     (λ (l : j < i). get-set-after ((j - 1) * b) b p t fits many ((i - 1) * b) b (block-apart j i b lj l))
     (either i j ne)
+
+-- ---- what is known of a slice of u8
+
+pub bytes-of : (t : List ℕ) → ((q : ℕ) → Fits w8 (getD t q 0)) → Bytes t
+bytes-of t f = record { small = λ q. f q .fits }

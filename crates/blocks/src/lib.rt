@@ -1,7 +1,7 @@
 // Blocks of bytes, and one block of a table of blocks.
 pub mod doublings; // doublings.rt: products of one byte by many
 
-ghost use mathlib.Core.List.{map};
+ghost use mathlib.Core.List.{[], _∷_, map};
 ghost use mathlib.Core.Path.{_≡_};
 ghost use Prim.Native.Nat.{_+_, _-_, _*_, _≤_};
 ghost use lib.Bits.{bitXor};
@@ -9,6 +9,7 @@ ghost use lib.ListN.{length, replicate};
 ghost use Rattle.gf256.specs.Field;
 ghost use Rattle.blocks.specs.Blocks;
 ghost use Rattle.blocks.specs.Blocks.{setBlock, zip, addTimes};
+ghost use Rattle.blocks.specs.Sums.{plusAll};
 use doublings::Doublings;
 
 // Zero at each place.
@@ -84,16 +85,15 @@ pub fn double(dst: &mut [u8])
     }
 }
 
-// dst plus four blocks, in one pass.
-pub fn add_four(dst: &mut [u8], s: &[u8], t: &[u8], u: &[u8], v: &[u8])
-    requires { ⌜ (length (now dst) ≡ length (now s)) × (length (now dst) ≡ length (now t))
-        × (length (now dst) ≡ length (now u)) × (length (now dst) ≡ length (now v)) ⌝ }
-    ensures { λ _. ⌜ now (dst .exit)
-        ≡ zip bitXor (zip bitXor (zip bitXor (zip bitXor (now (dst .entry)) (now (s .entry))) (now (t .entry))) (now (u .entry))) (now (v .entry)) ⌝ }
+// dst plus four blocks of t at once: those that start at p, q, r and s.
+pub fn add_four(dst: &mut [u8], t: &[u8], p: usize, q: usize, r: usize, s: usize)
+    requires { ⌜ (p + length (now dst) ≤ length (now t)) × (q + length (now dst) ≤ length (now t))
+        × (r + length (now dst) ≤ length (now t)) × (s + length (now dst) ≤ length (now t)) ⌝ }
+    ensures { λ _. ⌜ now (dst .exit) ≡ plusAll (length (now (dst .entry))) (now (t .entry)) (p ∷ q ∷ r ∷ s ∷ []) (now (dst .entry)) ⌝ }
 {
     let mut i = 0;
     while i < dst.len() {
-        dst[i] = dst[i] ^ s[i] ^ t[i] ^ u[i] ^ v[i];
+        dst[i] = dst[i] ^ t[p + i] ^ t[q + i] ^ t[r + i] ^ t[s + i];
         i += 1;
     }
 }

@@ -8,3 +8,11 @@ pub mod Invertible
 pub mod NodeSets
 pub mod Sizes
 pub mod Demand2
+pub mod Members
+pub mod Combining
+pub mod Horner
+pub mod Entries
+pub mod Weighing
+pub mod Mixing
+pub mod Encoded
+pub mod Limits

@@ -2,3 +2,5 @@ pub mod Code
 pub mod Decode
 pub mod Calls
 pub mod Demand2
+pub mod Combine
+pub mod Weights

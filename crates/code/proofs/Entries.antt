@@ -1,0 +1,27 @@
+-- A loop that fills an array from its start with f 1, f 2, ..: after i turns the first i entries are there. Assumes nothing.
+use mathlib.Core.Path.{_≡_, refl, ap, _∙_}
+use mathlib.Core.List.{List}
+use Prim.Native.Nat.{ℕ, suc, _+_, _-_, _≤_, _<_}
+use native.Mathlib.Decide.{ℕ-discrete}
+use native.Mathlib.Omega.{arith}
+use lib.ListN.{length, set, length-set}
+use lib.Seq.{getD-set-same, getD-set-other}
+use Rattle.code.specs.Combine.{nth}
+use Rattle.code.proofs.Sum.{All}
+
+pub record Entries (n : ℕ) (f : ℕ → ℕ) (i : ℕ) (r : List ℕ) : Type 0 where
+  pub size : length r ≡ n
+  pub done : All i (λ q. nth r q ≡ f q)
+
+pub entries-none : (n : ℕ) (f : ℕ → ℕ) (r : List ℕ) → length r ≡ n → Entries n f 0 r
+entries-none n f r l = record { size = l; done = λ q q1 q0. absurd (omega arith) }
+
+pub entries-turn : (n : ℕ) (f : ℕ → ℕ) (i : ℕ) (r : List ℕ) (v : ℕ) → i < n → v ≡ f (i + 1) → Entries n f i r → Entries n f (i + 1) (set r i v)
+entries-turn n f i r v l e s =
+    record { size = length-set r i v ∙ s .size; done = λ q q1 qi. by q q1 qi (ℕ-discrete q (i + 1)) }
+  where
+    by : (q : ℕ) → 1 ≤ q → q ≤ i + 1 → Dec (q ≡ i + 1) → nth (set r i v) q ≡ f q
+    by q q1 qi (yes h) =
+        let here : q - 1 ≡ i = omega arith in
+        rw (here, h) (getD-set-same r i v 0 (omega (arith, s .size)) ∙ e)
+    by q q1 qi (no n) = getD-set-other r i (q - 1) v 0 (omega arith) ∙ s .done q q1 (omega arith)

@@ -1,0 +1,21 @@
+-- The parts of `recover` as the code works them out. Assumes nothing.
+use mathlib.Core.List.{List}
+use mathlib.Core.Path.{_≡_}
+use Prim.Native.Nat.{ℕ, suc, _-_, _≤_, _<_}
+use lib.ListN.{length, getD}
+use Rattle.gf256.specs.Field.{product, inverse}
+use Rattle.code.specs.Decode.{others, scale}
+
+-- at most 12 nodes, numbered from 1
+pub record Nodes (nodes : List ℕ) : Type 0 where
+  pub few : length nodes ≤ 12
+  pub from : (l : ℕ) → l < length nodes → 1 ≤ getD nodes l 0
+
+-- the nodes 1 to 12
+pub record First (nodes : List ℕ) : Type 0 where
+  pub twelve : length nodes ≡ 12
+  pub at : (q : ℕ) → q < 12 → getD nodes q 0 ≡ suc q
+
+-- the factor of `recover` that belongs to node s q alone
+abbrev pub share : ℕ → (ℕ → ℕ) → ℕ → ℕ
+share k s q = product (scale k (s q)) (inverse (others s k q (s q - 1)))

@@ -1,0 +1,102 @@
+// The weights with which blocks count in a block: the coefficients of the code, and those that recover a node from k others.
+ghost use mathlib.Core.Path.{_≡_};
+ghost use Prim.Native.Nat.{ℕ, _+_, _-_, _<_, _≤_};
+ghost use lib.ListN.{length};
+ghost use Rattle.code.specs.Code;
+ghost use Rattle.code.specs.Decode;
+ghost use Rattle.code.specs.Combine.{nth};
+ghost use Rattle.code.specs.Weights.{Nodes, First, share};
+
+// The nodes that can hold data.
+pub fn data_nodes() -> [u8; 12]
+    ensures { λ r. ⌜ First r ⌝ }
+{
+    [1, 2, 3, 4, 5, 6, 7, 8, 9, 10, 11, 12]
+}
+
+// c(j,i).
+pub fn coefficient(j: usize, i: usize) -> u8
+    requires { ⌜ (1 ≤ j) × (j ≤ 256) × (1 ≤ i) × (i ≤ 256) ⌝ }
+    ensures { λ r. ⌜ r ≡ Code.coefficient j i ⌝ }
+{
+    gf256::inverse((j - 1) as u8 ^ (i - 1) as u8)
+}
+
+// The coefficients of the redundant node j, at the first k places.
+pub fn row(k: usize, j: usize) -> [u8; 12]
+    requires { ⌜ (k ≤ 12) × (1 ≤ j) × (j ≤ 256) ⌝ }
+    ensures { λ r. ⌜ ((i : ℕ) → 1 ≤ i → i ≤ k → nth r i ≡ Code.coefficient j i) ⌝ }
+{
+    let mut r = [0u8; 12];
+    let mut i = 0;
+    while i < k {
+        r[i] = coefficient(j, i + 1);
+        i += 1;
+    }
+    r
+}
+
+// The product of t plus the point of each node but the qth.
+pub fn others(nodes: &[u8], q: usize, t: u8) -> u8
+    requires { ⌜ Nodes (now nodes) ⌝ }
+    ensures { λ r. ⌜ r ≡ Decode.others (nth (now (nodes .entry))) (length (now (nodes .entry))) q t ⌝ }
+{
+    let mut r: u8 = 1;
+    let mut l = 0;
+    while l < nodes.len() {
+        if l + 1 != q {
+            r = gf256::product(t ^ (nodes[l] - 1), r);
+        }
+        l += 1;
+    }
+    r
+}
+
+// The product over the data nodes but j of the sum of their point and that of j.
+fn scale(k: usize, j: usize) -> u8
+    requires { ⌜ (k ≤ 12) × (1 ≤ j) × (j ≤ 256) ⌝ }
+    ensures { λ r. ⌜ r ≡ Decode.scale k j ⌝ }
+{
+    let data = data_nodes();
+    others(&data[..k], j, (j - 1) as u8)
+}
+
+// What the qth node counts for by itself.
+fn share_of(nodes: &[u8], q: usize) -> u8
+    requires { ⌜ Nodes (now nodes) × (1 ≤ q) × (q ≤ length (now nodes)) ⌝ }
+    ensures { λ r. ⌜ r ≡ share (length (now (nodes .entry))) (nth (now (nodes .entry))) q ⌝ }
+{
+    let j = nodes[q - 1];
+    let apart = others(nodes, q, j - 1);
+    gf256::product(scale(nodes.len(), j as usize), gf256::inverse(apart))
+}
+
+pub fn shares(nodes: &[u8]) -> [u8; 12]
+    requires { ⌜ Nodes (now nodes) ⌝ }
+    ensures { λ r. ⌜ ((q : ℕ) → 1 ≤ q → q ≤ length (now (nodes .entry)) → nth r q ≡ share (length (now (nodes .entry))) (nth (now (nodes .entry))) q) ⌝ }
+{
+    let mut r = [0u8; 12];
+    let mut q = 0;
+    while q < nodes.len() {
+        r[q] = share_of(nodes, q + 1);
+        q += 1;
+    }
+    r
+}
+
+// What the blocks of the nodes count for in that of node j.
+pub fn recover_row(nodes: &[u8], shares: &[u8; 12], j: usize) -> [u8; 12]
+    requires { ⌜ Nodes (now nodes) × (1 ≤ j) × (j ≤ 256)
+        × ((q : ℕ) → 1 ≤ q → q ≤ length (now nodes) → nth (now shares) q ≡ share (length (now nodes)) (nth (now nodes)) q) ⌝ }
+    ensures { λ r. ⌜ ((q : ℕ) → 1 ≤ q → q ≤ length (now (nodes .entry)) → nth r q ≡ Decode.recover (length (now (nodes .entry))) (nth (now (nodes .entry))) j q) ⌝ }
+{
+    let rest = gf256::inverse(scale(nodes.len(), j));
+    let mut r = [0u8; 12];
+    let mut q = 0;
+    while q < nodes.len() {
+        let apart = gf256::product(others(nodes, q + 1, (j - 1) as u8), rest);
+        r[q] = gf256::product(shares[q], apart);
+        q += 1;
+    }
+    r
+}
