@@ -1,15 +1,22 @@
--- A loop that writes a table block by block: after j turns the first j blocks are there. Assumes nothing.
+-- A list by its bytes; and a loop that writes a table block by block: after j turns the first j blocks are there. Assumes nothing.
 use mathlib.Core.List.{List, _++_}
 use mathlib.Core.Path.{_≡_, refl, sym, ap, ap₂, _∙_}
-use Prim.Native.Nat.{ℕ, zero, suc, _+_, _*_, _≤_, _<_}
-use native.Mathlib.Nat.{zero-mul, suc-mul, mul-le-mul-right}
+use Prim.Native.Nat.{ℕ, zero, suc, _+_, _-_, _*_, _≤_, _<_}
+use native.Mathlib.Nat.{add-sub-cancel-left, zero-mul, suc-mul, mul-le-mul-right}
 use native.Mathlib.Numerals.{add-one}
 use native.Mathlib.Omega.{arith}
-use lib.ListN.{length, take}
-use lib.Seq.{take-all}
+use lib.ListN.{length, getD, take}
+use lib.Seq.{take-all, ext-getD}
 use Rattle.blocks.specs.Blocks.{setPart, listOf, table}
 use Rattle.blocks.proofs.Parts.{set-length, take-set}
-use Rattle.blocks.proofs.Tables.{length-listOf}
+use Rattle.blocks.proofs.Tables.{length-listOf, getD-listOf}
+
+pub listOf-is : (b : ℕ) (f : ℕ → ℕ) (d : List ℕ) → length d ≡ b → ((p : ℕ) → p < b → getD d p 0 ≡ f p) → d ≡ listOf b f
+listOf-is b f d l e =
+    ext-getD 0 d (listOf b f) (l ∙ sym (length-listOf b f))
+    (λ p lp. let lb : p < b = omega arith in e p lb ∙ sym (getD-listOf b f p 0 lb))
+
+-- ---- the loop
 
 pub record Tabled (m b : ℕ) (f : ℕ → ℕ → ℕ) (j : ℕ) (out : List ℕ) : Type 0 where
   pub size : length out ≡ m * b
@@ -24,14 +31,16 @@ module _ (m b : ℕ) (f : ℕ → ℕ → ℕ) (out : List ℕ) where
   pub tabled-fits : (j : ℕ) → j < m → Tabled m b f j out → j * b + b ≤ length out
   tabled-fits j l t = omega (arith, t .size, suc-mul j b, mul-le-mul-right b l)
 
-  pub tabled-turn : (j : ℕ) (p next : List ℕ) → j < m → Tabled m b f j out → p ≡ listOf b (f (suc j)) → next ≡ setPart (j * b) b p out → Tabled m b f (j + 1) next
+  -- that block as the code lends it, from j * b up to j * b + b, comes back as p
+  pub tabled-turn : (j : ℕ) (p : List ℕ) → j < m → Tabled m b f j out → p ≡ listOf b (f (suc j)) → Tabled m b f (j + 1) (setPart (j * b) (j * b + b - j * b) p out)
   unfolding table
-  tabled-turn j p next l t ep en =
+  tabled-turn j p l t e =
       let fits : j * b + b ≤ length out = tabled-fits j l t in
-      let many : length p ≡ b = ap length ep ∙ length-listOf b (f (suc j)) in
+      let many : length p ≡ b = ap length e ∙ length-listOf b (f (suc j)) in
+      rw (add-sub-cancel-left (j * b) b)
       record {
-        size = ap length en ∙ set-length (j * b) b p out fits many ∙ t .size;
-        blocks = rw (add-one j, suc-mul j b, en) (take-set (j * b) b p out fits many ∙ ap₂ _++_ (t .blocks) ep);
+        size = set-length (j * b) b p out fits many ∙ t .size;
+        blocks = rw (add-one j, suc-mul j b) (take-set (j * b) b p out fits many ∙ ap₂ _++_ (t .blocks) e);
       }
 
   pub tabled-all : (j : ℕ) → j ≡ m → Tabled m b f j out → out ≡ table m b f

@@ -100,6 +100,16 @@ pub fn add_four(dst: &mut [u8], t: &[u8], p: usize, q: usize, r: usize, s: usize
 
 // ---- block j of the table t, of blocks of b bytes; the other blocks are as they were
 
+// The block itself, into dst.
+pub fn read_block(dst: &mut [u8], t: &[u8], b: usize, j: usize)
+    requires { ⌜ (length (now dst) ≡ b) × (1 ≤ j) × ((j - 1) * b + b ≤ length (now t)) ⌝ }
+    ensures { λ _. ⌜ now (dst .exit) ≡ Blocks.block b j (now (t .entry)) ⌝ }
+{
+    let a = (j - 1) * b;
+    let e = a + b;
+    copy(dst, &t[a..e]);
+}
+
 pub fn copy_block(t: &mut [u8], b: usize, j: usize, src: &[u8])
     requires { ⌜ (1 ≤ j) × ((j - 1) * b + b ≤ length (now t)) × (length (now src) ≡ b) ⌝ }
     ensures { λ _. ⌜ now (t .exit) ≡ setBlock b j (now (src .entry)) (now (t .entry)) ⌝ }

@@ -90,7 +90,7 @@ or-false true b e = (e, cc)
 or-false false b e = (refl, e)
 
 -- where no node given is outside, those given are at most n
-is-in-most : (n : ℕ) (xs : List ℕ) (j : ℕ) → someOutside n xs ≡ false → isIn xs j ≡ true → j ≤ n
+pub is-in-most : (n : ℕ) (xs : List ℕ) (j : ℕ) → someOutside n xs ≡ false → isIn xs j ≡ true → j ≤ n
 unfolding someOutside isIn
 is-in-most n [] j e i = absurd (never-both false i refl)
 is-in-most n (x ∷ xs) j e i =

@@ -9,7 +9,6 @@ use native.Mathlib.Omega.{arith}
 use lib.Bits.{bitXor}
 use lib.Dec.{eqb}
 use lib.ListN.{length, getD, replicate, length-replicate, getD-replicate, length-map, List·getD-map}
-use lib.Seq.{ext-getD}
 use Rattle.gf256.specs.Field.{double, product}
 use Rattle.gf256.proofs.Computed.{every, same-below}
 use Rattle.gf256.proofs.Laws.{double-add, product-double, one-product, zero-product, add-product}
@@ -17,7 +16,7 @@ use Rattle.gf256.proofs.Xor.{bit-cases, low-bit, xors, xor-assoc, xor-zero-r}
 use Rattle.blocks.specs.Blocks.{listOf, Bytes}
 use Rattle.blocks.specs.Sums.{plusAll}
 use Rattle.blocks.proofs.Sums.{plusBytes, plus-length, plus-at}
-use Rattle.blocks.proofs.Tables.{length-listOf, getD-listOf}
+use Rattle.blocks.proofs.Tabled.{listOf-is}
 use Rattle.code.specs.Code.{sum}
 use Rattle.code.specs.Combine.{combined, withBit, Within}
 use Rattle.code.proofs.Sum.{All, sum-ext, sum-zero, sum-add}
@@ -163,6 +162,4 @@ module _ (t starts weights : List ℕ) (w : Bytes weights) where
       }
 
   pub summed-all : (b : ℕ) (out : List ℕ) → length out ≡ b → Summed t starts weights 0 out → out ≡ listOf b (combined t starts weights)
-  summed-all b out long s =
-      ext-getD 0 out (listOf b (combined t starts weights)) (long ∙ sym (length-listOf b (combined t starts weights)))
-      (λ p l. s .bytes p l ∙ above-all t starts weights p ∙ sym (getD-listOf b (combined t starts weights) p 0 (omega arith)))
+  summed-all b out long s = listOf-is b (combined t starts weights) out long (λ p l. s .bytes p (omega arith) ∙ above-all t starts weights p)

@@ -16,3 +16,7 @@ pub mod Weighing
 pub mod Mixing
 pub mod Encoded
 pub mod Limits
+pub mod Restored
+pub mod Lowest
+pub mod Given
+pub mod Decoded

@@ -11,9 +11,9 @@ use lib.Seq.{length-take-le, getD-take}
 use borrow.Author.Tests.{eq-eqb, ne-eqb}
 use Rattle.gf256.specs.Field.{product}
 use Rattle.code.specs.Combine.{nth}
-use Rattle.code.specs.Decode.{others, scale}
+use Rattle.code.specs.Decode.{others, scale, recover, recovered}
 use Rattle.code.specs.Weights.{Nodes, First}
-use Rattle.code.proofs.Sum.{All}
+use Rattle.code.proofs.Sum.{All, sum-ext}
 
 nth-next : (xs : List ℕ) (l : ℕ) → nth xs (suc l) ≡ getD xs l 0
 nth-next xs l = let e : suc l - 1 ≡ l = omega arith in rw e
@@ -52,3 +52,10 @@ module _ (nodes : List ℕ) (f : First nodes) (k : ℕ) (k12 : k ≤ 12) where
   pub scale-data : (j : ℕ) → others (nth (take k nodes)) (length (take k nodes)) j (j - 1) ≡ scale k j
   unfolding scale
   scale-data j = rw data-length (others-ext (nth (take k nodes)) (λ i. i) k j (j - 1) data-nth)
+
+-- what is recovered depends on the first k nodes alone
+pub recovered-nodes : (s r : ℕ → ℕ) (k : ℕ) (f : ℕ → ℕ) (j : ℕ) → All k (λ q. s q ≡ r q)
+    → recovered k s (λ q. f (s q)) j ≡ recovered k r (λ q. f (r q)) j
+unfolding recovered recover
+recovered-nodes s r k f j e =
+    sum-ext k _ _ (λ q q1 qk. rw (others-ext s r k q (s q - 1) e, others-ext s r k q (j - 1) e, e q q1 qk))

@@ -4,12 +4,18 @@ use mathlib.Core.Path.{_≡_}
 use Prim.Native.Nat.{ℕ, suc, _-_, _≤_, _<_}
 use lib.ListN.{length, getD}
 use Rattle.gf256.specs.Field.{product, inverse}
-use Rattle.code.specs.Decode.{others, scale}
+use Rattle.blocks.specs.Blocks.{byteAt}
+use Rattle.code.specs.Combine.{nth}
+use Rattle.code.specs.Decode.{others, scale, recovered}
 
 -- at most 12 nodes, numbered from 1
 pub record Nodes (nodes : List ℕ) : Type 0 where
   pub few : length nodes ≤ 12
   pub from : (l : ℕ) → l < length nodes → 1 ≤ getD nodes l 0
+
+-- each above the one before it
+pub record Rising (nodes : List ℕ) : Type 0 where
+  pub rises : (p q : ℕ) → p < q → q < length nodes → getD nodes p 0 < getD nodes q 0
 
 -- the nodes 1 to 12
 pub record First (nodes : List ℕ) : Type 0 where
@@ -19,3 +25,7 @@ pub record First (nodes : List ℕ) : Type 0 where
 -- the factor of `recover` that belongs to node s q alone
 abbrev pub share : ℕ → (ℕ → ℕ) → ℕ → ℕ
 share k s q = product (scale k (s q)) (inverse (others s k q (s q - 1)))
+
+-- byte p of node j's block, from the blocks of b bytes of the nodes
+abbrev pub restored : ℕ → List ℕ → List ℕ → ℕ → ℕ → ℕ
+restored b t nodes j p = recovered (length nodes) (nth nodes) (λ q. byteAt b t (nth nodes q) p) j

@@ -1,7 +1,7 @@
 // Sets of nodes.
 ghost use mathlib.Core.Bool.{false, _||_};
 ghost use mathlib.Core.Path.{_≡_};
-ghost use Prim.Native.Nat.{ℕ};
+ghost use Prim.Native.Nat.{ℕ, _≤_};
 ghost use lib.Dec.{eqb};
 ghost use lib.ListN.{getD};
 ghost use Rattle.code.specs.Decode;
@@ -46,7 +46,7 @@ impl NodeSet {
     }
 
     pub fn size(self) -> usize
-        ensures { λ r. ⌜ r ≡ Decode.size (self .has) ⌝ }
+        ensures { λ r. ⌜ (r ≡ Decode.size (self .has)) × (r ≤ 18) ⌝ }
     {
         let mut n = 0;
         let mut j = 0;

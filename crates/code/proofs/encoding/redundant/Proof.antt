@@ -1,7 +1,6 @@
 -- `code::encoding::redundant` meets its contract: after j turns the first j redundant blocks are there. Assumes nothing.
 use mathlib.Core.Path.{_≡_}
 use Prim.Native.Nat.{_≤_, _-_, _+_, _*_, suc}
-use native.Mathlib.Nat.{add-sub-cancel-left}
 use native.Mathlib.Omega.{arith}
 use borrow.Author.Needs.{needs}
 use Rattle.blocks.proofs.Parts.{lent-length}
@@ -51,13 +50,9 @@ unfolding setPart
 loop-again c =
     let at-block = c .before .before in
     let at-loop = at-block .before .before .before in
-    let at-start = at-loop .before .before .before in
-    let j = at-loop .loop .j in
-    let next : at-start .args .k + j + 1 ≡ at-start .args .k + suc j = omega arith in (
-      omega arith,
-      tabled-turn _ _ _ (at-loop .loop .out) j (at-block .redundant-block .last .0) _ (omega arith) (at-loop .loop .inv .1)
-          (rw next at (at-block .redundant-block .ensures)) (rw add-sub-cancel-left),
-    )
+    let args = at-loop .before .before .before .args in
+    let next : args .k + at-loop .loop .j + 1 ≡ args .k + suc (at-loop .loop .j) = omega arith in
+    (omega arith, tabled-turn _ _ _ _ _ _ (omega arith) (at-loop .loop .inv .1) (rw next at (at-block .redundant-block .ensures)))
 
 returns : tie.Need-returns Inv-loop μ-loop
 unfolding Code.redundant

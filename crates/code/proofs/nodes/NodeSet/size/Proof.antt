@@ -35,7 +35,7 @@ returns : tie.Need-returns Inv-loop μ-loop
 returns c =
     let at-start = c .before .before in
     let places = eighteen (at-start .args .t1) _ (at-start .good .0) in
-    c .before .loop .inv .2 ∙ ap length (upto-all (c .before .loop .j) (at-start .args .t1 .has) (omega arith))
+    (c .before .loop .inv .2 ∙ ap length (upto-all (c .before .loop .j) (at-start .args .t1 .has) (omega arith)), omega arith)
 
 pub size-spec : {M : Type 1} → statement M
 size-spec =
