@@ -1,0 +1,210 @@
+//! How many bytes a second the library multiplies, beside a plain loop over a row of products. A source byte counts once for each
+//! block that it is multiplied into.
+use mezgaudre::{add_times, decode, encode, product, Answer};
+use std::hint::black_box;
+use std::time::{Duration, Instant};
+
+const K: usize = 12;
+const N: usize = 18;
+const LOST: usize = N - K;
+const LENGTHS: [usize; 3] = [64, 512, 4096];
+
+const WARM_UP: Duration = Duration::from_millis(100);
+const ROUND: Duration = Duration::from_millis(20);
+const ROUNDS: usize = 15;
+
+/// At place c the products of c with 0 to 255.
+type Rows = Vec<[u8; 256]>;
+
+fn rows() -> Rows {
+    (0..=255)
+        .map(|c| std::array::from_fn(|x| product(c, x as u8)))
+        .collect()
+}
+
+/// The loop to compare with: dst plus the row's number times src.
+#[inline(never)]
+fn add_row(row: &[u8; 256], dst: &mut [u8], src: &[u8]) {
+    for (d, s) in dst.iter_mut().zip(src) {
+        *d ^= row[*s as usize];
+    }
+}
+
+/// Each block of `out` becomes the sum of its weights times the blocks of `sources`.
+fn combine_rows(rows: &Rows, weights: &[[u8; K]], b: usize, sources: &[u8], out: &mut [u8]) {
+    out.fill(0);
+    for (weights, dst) in weights.iter().zip(out.chunks_exact_mut(b)) {
+        for (&c, src) in weights.iter().zip(sources.chunks_exact(b)) {
+            add_row(&rows[c as usize], dst, src);
+        }
+    }
+}
+
+/// With what weight each of K blocks counts in each of LOST others: `column(i)` is what the byte 1 in block i alone gives.
+fn weights(column: impl Fn(usize) -> Vec<u8>) -> [[u8; K]; LOST] {
+    let columns: Vec<_> = (0..K).map(column).collect();
+    std::array::from_fn(|j| std::array::from_fn(|i| columns[i][j]))
+}
+
+fn accepted(answer: Answer) {
+    assert_eq!(answer, Answer::Accepted);
+}
+
+/// Bytes with no pattern.
+fn noise(length: usize) -> Vec<u8> {
+    let mut state = 1u64;
+    let mut next = || {
+        state = state
+            .wrapping_mul(6364136223846793005)
+            .wrapping_add(1442695040888963407);
+        (state >> 56) as u8
+    };
+    (0..length).map(|_| next()).collect()
+}
+
+/// How many calls of `work` make a round, found in the warm-up.
+fn calls_in_a_round(work: &mut impl FnMut()) -> u32 {
+    let started = Instant::now();
+    let mut calls = 0;
+    while started.elapsed() < WARM_UP {
+        work();
+        calls += 1;
+    }
+    calls * ROUND.as_millis() as u32 / WARM_UP.as_millis() as u32 + 1
+}
+
+/// Seconds that a call takes, over one round.
+fn round(work: &mut impl FnMut(), calls: u32) -> f64 {
+    let started = Instant::now();
+    (0..calls).for_each(|_| work());
+    started.elapsed().as_secs_f64() / calls as f64
+}
+
+/// A line of the table, on calls that multiply so many bytes: the best of several rounds, which alternate between the two.
+/// Returns the library's GB/s and its ratio to the row loop.
+fn line(
+    name: &str,
+    b: usize,
+    bytes: usize,
+    mut library: impl FnMut(),
+    mut row: impl FnMut(),
+) -> (f64, f64) {
+    let library_calls = calls_in_a_round(&mut library);
+    let row_calls = calls_in_a_round(&mut row);
+    let mut best = [f64::INFINITY; 2];
+    for _ in 0..ROUNDS {
+        best[0] = best[0].min(round(&mut library, library_calls));
+        best[1] = best[1].min(round(&mut row, row_calls));
+    }
+    let [library, row] = best.map(|seconds| bytes as f64 / seconds / 1e9);
+    let ratio = library / row;
+    println!("{name:<24}{b:>6}{library:>12.2}{row:>12.2}{ratio:>8.2}");
+    (library, ratio)
+}
+
+fn multiply_add(rows: &Rows, b: usize) -> (f64, f64) {
+    let (c, src, mut dst, mut row_dst) = (0x8E, noise(b), vec![0; b], vec![0; b]);
+    accepted(add_times(&mut dst, &src, c));
+    add_row(&rows[c as usize], &mut row_dst, &src);
+    assert_eq!(dst, row_dst);
+    let library = || {
+        accepted(add_times(
+            black_box(&mut dst),
+            black_box(&src),
+            black_box(c),
+        ))
+    };
+    let row = || {
+        add_row(
+            black_box(&rows[c as usize]),
+            black_box(&mut row_dst),
+            black_box(&src),
+        )
+    };
+    line("multiply-add", b, b, library, row)
+}
+
+fn encode_12_6(rows: &Rows, b: usize) -> (f64, f64) {
+    let weights = weights(|i| {
+        let (mut data, mut out) = ([0; K], vec![0; LOST]);
+        data[i] = 1;
+        accepted(encode(K, N, 1, &data, &mut out));
+        out
+    });
+    let data = noise(K * b);
+    let (mut out, mut row_out) = (vec![0; LOST * b], vec![0; LOST * b]);
+    accepted(encode(K, N, b, &data, &mut out));
+    combine_rows(rows, &weights, b, &data, &mut row_out);
+    assert_eq!(out, row_out);
+    let library = || accepted(encode(K, N, b, black_box(&data), black_box(&mut out)));
+    let row = || {
+        combine_rows(
+            rows,
+            black_box(&weights),
+            b,
+            black_box(&data),
+            black_box(&mut row_out),
+        )
+    };
+    line("encode 12+6", b, K * b * LOST, library, row)
+}
+
+/// Data blocks 1 to 6 are lost: they are decoded from the others, and the six data blocks that are left are copied.
+fn decode_6_lost(rows: &Rows, b: usize) -> (f64, f64) {
+    let left: [u8; K] = std::array::from_fn(|i| (LOST + 1 + i) as u8);
+    let weights = weights(|i| {
+        let (mut table, mut out) = ([0; N], vec![0; K]);
+        table[left[i] as usize - 1] = 1;
+        accepted(decode(K, N, 1, &left, &table, &mut out));
+        out
+    });
+    let mut table = noise(N * b);
+    let data = table[..K * b].to_vec();
+    accepted(encode(K, N, b, &data, &mut table[K * b..]));
+    table[..LOST * b].fill(0xA5);
+    let (mut out, mut row_out) = (vec![0; K * b], vec![0; K * b]);
+    let by_rows = |table: &[u8], out: &mut [u8]| {
+        let (lost, kept) = out.split_at_mut(LOST * b);
+        combine_rows(rows, &weights, b, &table[LOST * b..], lost);
+        kept.copy_from_slice(&table[LOST * b..K * b]);
+    };
+    accepted(decode(K, N, b, &left, &table, &mut out));
+    by_rows(&table, &mut row_out);
+    assert!(out == data && row_out == data);
+    let library = || {
+        accepted(decode(
+            K,
+            N,
+            b,
+            &left,
+            black_box(&table),
+            black_box(&mut out),
+        ))
+    };
+    let row = || by_rows(black_box(&table), black_box(&mut row_out));
+    line("decode 12+6, 6 lost", b, K * b * LOST, library, row)
+}
+
+fn aim(what: &str, measured: f64, least: f64) {
+    println!(
+        "{what}: {measured:.2}, aim {least}: {}",
+        if measured < least { "MISSED" } else { "met" }
+    );
+}
+
+fn main() {
+    let rows = rows();
+    println!("GB/s of bytes multiplied     B     library    row loop   ratio");
+    let [_, _, added] = LENGTHS.map(|b| multiply_add(&rows, b));
+    let [_, _, encoded] = LENGTHS.map(|b| encode_12_6(&rows, b));
+    let [_, _, decoded] = LENGTHS.map(|b| decode_6_lost(&rows, b));
+    println!("Encode and decode write their whole output in each call; the row loop clears its own, within its time.");
+    println!("Multiply-add adds to the same block again and again, and nothing clears it. All buffers stay in the cache.");
+    aim("multiply-add at 4096, ratio", added.1, 1.5);
+    aim("encode 12+6 at 4096, ratio", encoded.1, 2.5);
+    aim(
+        "decode beside encode, per byte of a lost or redundant block",
+        decoded.0 / encoded.0,
+        0.8,
+    );
+}

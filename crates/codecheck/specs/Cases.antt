@@ -1,0 +1,27 @@
+-- What the functions on a case ask of its sizes and of its buffers. Assumes nothing.
+use mathlib.Core.List.{List}
+use mathlib.Core.Path.{_≡_}
+use Prim.Native.Nat.{ℕ, _+_, _-_, _*_, _≤_}
+use lib.ListN.{length}
+use Rattle.codecheck.specs.declared.Sizes.{Sizes}
+use Rattle.codecheck.specs.declared.cases.Lengths.{Lengths}
+
+pub record Within (s : Sizes) : Type 0 where
+  pub data-nodes : s .k ≤ 12
+  pub nodes : s .k ≤ s .n
+  pub redundant-nodes : s .n - s .k ≤ 6
+  pub block : s .b ≤ 4096
+
+-- the buffers of a case have room
+pub record Room (s : Sizes) (r : Lengths) : Type 0 where
+  pub nodes : r .table ≡ s .n * s .b
+  pub parts : r .table ≡ r .«data» + r .redundant
+  pub table-most : r .table ≤ 73728
+  pub data-most : r .«data» ≤ 49152
+  pub redundant-most : r .redundant ≤ 24576
+
+-- a codeword, and a table of its length
+pub record Tables (s : Sizes) (word table : List ℕ) : Type 0 where
+  pub within : Within s
+  pub blocks : length table ≡ s .n * s .b
+  pub same : length table ≡ length word

@@ -1,0 +1,73 @@
+// The library for C and Rust. No function asks anything of its arguments.
+ghost use mathlib.Core.Path.{_≡_};
+ghost use Rattle.gf256.specs.Field.{product};
+ghost use Rattle.code.specs.Calls.{encoding, decoding};
+ghost use Rattle.exports.specs.Exports.{sizeIn, answerOf, answered, added};
+use code::CodeAnswer;
+
+// The size that the answer gives.
+fn size_in(a: CodeAnswer) -> u8
+    ensures { λ r. ⌜ r ≡ sizeIn a ⌝ }
+{
+    match a {
+        CodeAnswer::Accepted => 0,
+        CodeAnswer::OutOfLimits => 0,
+        CodeAnswer::OutOfRange => 0,
+        CodeAnswer::TooFew(size) => size,
+        CodeAnswer::NoInverse => 0,
+    }
+}
+
+fn answer_of(a: CodeAnswer) -> u32
+    ensures { λ r. ⌜ r ≡ answerOf a ⌝ }
+{
+    a.number() as u32 + 256 * size_in(a) as u32
+}
+
+// The redundant blocks of the k data blocks, into out.
+#[no_mangle]
+pub extern "C" fn mezgaudre_encode(
+    k: usize,
+    n: usize,
+    b: usize,
+    blocks: &[u8],
+    out: &mut [u8],
+) -> u32
+    ensures { λ r. ⌜ answered (encoding k n b (now (blocks .entry)) (now (out .entry))) ≡ record { answer = r; out = now (out .exit) } ⌝ }
+{
+    answer_of(code::encode(k, n, b, blocks, out))
+}
+
+// The data blocks from the table's blocks of the nodes, into out.
+#[no_mangle]
+pub extern "C" fn mezgaudre_decode(
+    k: usize,
+    n: usize,
+    b: usize,
+    nodes: &[u8],
+    blocks: &[u8],
+    out: &mut [u8],
+) -> u32
+    ensures { λ r. ⌜ answered (decoding k n b (now (nodes .entry)) (now (blocks .entry)) (now (out .entry))) ≡ record { answer = r; out = now (out .exit) } ⌝ }
+{
+    answer_of(code::decode(k, n, b, nodes, blocks, out))
+}
+
+#[no_mangle]
+pub extern "C" fn mezgaudre_product(a: u8, b: u8) -> u8
+    ensures { λ r. ⌜ r ≡ product a b ⌝ }
+{
+    gf256::product(a, b)
+}
+
+// dst plus c times src, answered 0; of another length than src, dst stays as it is, answered 1.
+#[no_mangle]
+pub extern "C" fn mezgaudre_add_times(dst: &mut [u8], src: &[u8], c: u8) -> u32
+    ensures { λ r. ⌜ added c (now (src .entry)) (now (dst .entry)) ≡ record { answer = r; out = now (dst .exit) } ⌝ }
+{
+    if dst.len() != src.len() {
+        return 1;
+    }
+    blocks::add_times(dst, src, c);
+    0
+}

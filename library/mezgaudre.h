@@ -1,0 +1,41 @@
+/* Mezgaudre's erasure code over GF(256), proved: link with libexports.a, which `rt staticlib exports` makes.
+
+   A pointer, not null, and the number of bytes behind it stand for a buffer. The caller lends buffers that hold that many bytes,
+   and one that a call writes overlaps no other. No call asks more than that: wrong sizes and lengths have their answers. */
+#ifndef MEZGAUDRE_H
+#define MEZGAUDRE_H
+
+#include <stddef.h>
+#include <stdint.h>
+
+/* The numbers of the answers. Only encoding or decoding answered MEZGAUDRE_ACCEPTED has written to out. */
+enum {
+    MEZGAUDRE_ACCEPTED = 0,
+    MEZGAUDRE_OUT_OF_LIMITS = 1, /* the sizes, or a buffer's length */
+    MEZGAUDRE_OUT_OF_RANGE = 2,  /* a node that is not one of 1 to n */
+    MEZGAUDRE_TOO_FEW = 11,      /* fewer than k distinct nodes */
+    MEZGAUDRE_NO_INVERSE = 12    /* proved never to be given */
+};
+
+/* What encoding and decoding return: the answer's number, and for MEZGAUDRE_TOO_FEW how many distinct nodes there were. */
+static inline uint32_t mezgaudre_number(uint32_t answer) { return answer % 256; }
+static inline uint32_t mezgaudre_size(uint32_t answer) { return answer / 256; }
+
+/* Encodes k data blocks of b bytes into the n - k redundant blocks: k is 2 to 12, n - k is 1 to 6 and at most k, b is 1 to 4096,
+   blocks has k * b bytes and out has (n - k) * b. */
+uint32_t mezgaudre_encode(size_t k, size_t n, size_t b, const uint8_t *blocks, size_t blocks_length,
+                          uint8_t *out, size_t out_length);
+
+/* Decodes the k data blocks from the blocks of the given nodes, in any order: blocks is a table of n * b bytes, of which only the
+   given nodes' blocks are read, and out has k * b. */
+uint32_t mezgaudre_decode(size_t k, size_t n, size_t b, const uint8_t *nodes, size_t nodes_length,
+                          const uint8_t *blocks, size_t blocks_length, uint8_t *out, size_t out_length);
+
+/* a times b in GF(256). */
+uint8_t mezgaudre_product(uint8_t a, uint8_t b);
+
+/* Adds c times src to dst, and returns MEZGAUDRE_ACCEPTED; or where the lengths differ does nothing, and returns
+   MEZGAUDRE_OUT_OF_LIMITS. */
+uint32_t mezgaudre_add_times(uint8_t *dst, size_t dst_length, const uint8_t *src, size_t src_length, uint8_t c);
+
+#endif
