@@ -1,3 +1,4 @@
 pub mod Code
 pub mod Decode
 pub mod Calls
+pub mod Demand2

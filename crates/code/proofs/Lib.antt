@@ -1,0 +1,10 @@
+pub mod Ring
+pub mod Sum
+pub mod Degree
+pub mod Factors
+pub mod Symbols
+pub mod Recover
+pub mod Invertible
+pub mod NodeSets
+pub mod Sizes
+pub mod Demand2

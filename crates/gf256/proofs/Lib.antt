@@ -1,0 +1,4 @@
+pub mod Computed
+pub mod Xor
+pub mod Tables
+pub mod Laws
