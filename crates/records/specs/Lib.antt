@@ -2,3 +2,5 @@ pub mod Sizes
 pub mod Entries
 pub mod Node
 pub mod Client
+pub mod Lists
+pub mod View

@@ -1,4 +1,11 @@
 // The records of a stripe: write ids, entries, nodes and clients, the sizes, and the refusals with their numbers.
+// The types are here; their methods, each with self by value, are in a file for each record.
+mod node_entries; // node_entries.rt: an entry, a node's list of entries
+mod ranges; // ranges.rt: the ranges of numbers, the limits of the sizes
+mod write_ids; // write_ids.rt: a write id, a client's list of ids
+
+ghost use mathlib.Core.Path.{_≡_};
+ghost use Rattle.records.specs.Sizes.{numberOf};
 
 // A client's count of its writes.
 pub struct WriteNumber(pub u32);
@@ -24,6 +31,26 @@ pub struct Entry {
     pub id: WriteId,
     pub mark: Mark,
     pub age: Age,
+}
+
+impl Entries {
+    pub const LIMIT: usize = 16;
+}
+
+// A node's entries in order of arrival: the first count items.
+pub struct Entries {
+    pub items: [Entry; Entries::LIMIT],
+    pub count: usize,
+}
+
+impl Ids {
+    pub const LIMIT: usize = 8;
+}
+
+// A client's list of ids: the first count items.
+pub struct Ids {
+    pub items: [WriteId; Ids::LIMIT],
+    pub count: usize,
 }
 
 pub enum Opmode {
@@ -72,4 +99,26 @@ pub enum Refusal {
     NotHeld,
     TooFew(u8),
     NoInverse,
+}
+
+impl Refusal {
+    // The number of document 01's table.
+    pub fn number(self) -> u8
+        ensures { λ r. ⌜ r ≡ numberOf self ⌝ }
+    {
+        match self {
+            Refusal::OutOfLimits => 1,
+            Refusal::OutOfRange => 2,
+            Refusal::OutOfPhase => 3,
+            Refusal::WrongMode(_, _) => 4,
+            Refusal::OldEpoch(_) => 5,
+            Refusal::BeforePrevious(_) => 6,
+            Refusal::Full => 7,
+            Refusal::Exhausted => 8,
+            Refusal::Locked => 9,
+            Refusal::NotHeld => 10,
+            Refusal::TooFew(_) => 11,
+            Refusal::NoInverse => 12,
+        }
+    }
 }
