@@ -8,3 +8,4 @@ pub mod Invertible
 pub mod NodeSets
 pub mod Sizes
 pub mod Demand2
+pub mod Members
