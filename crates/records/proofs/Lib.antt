@@ -1,2 +1,4 @@
+pub mod Limits
 pub mod Lists
+pub mod Steps
 pub mod Tests

@@ -46,9 +46,13 @@ unfolding aged
 aged-count [] = refl
 aged-count (e ∷ es) = ap suc (aged-count es)
 
--- what owning an array of structs tells of its list is told of their machine values
-pub below-array : {A B : Type 0} (f : A → B) (l : List A) (i n : ℕ) → length (map f l) ≡ n → i < n → i < length l
-below-array f l i n e h = omega (arith, length-map l f)
+-- what owning an array tells of its list's length is told of the elements' machine values
+module _ {A B : Type 0} (f : A → B) (l : List A) (i n : ℕ) (e : length (map f l) ≡ n) where
+  pub below-array : i < n → i < length l
+  below-array h = omega (arith, length-map l f)
+
+  pub past-array : n ≤ i → length l ≤ i
+  past-array h = omega (arith, length-map l f)
 
 -- a store after the last of the n
 pub listOf-push : {A : Type 0} (l : List A) (n : ℕ) (x d : A) → n < length l

@@ -1,14 +1,35 @@
--- What `search` is handed where a function returns the outcome of tests. Assumes nothing.
-use mathlib.Core.Path.{_≡_, sym, ap, _∙_}
-use mathlib.Core.Bool.{Bool, true, false, _&&_}
-use borrow.Author.Tests.{le-leb, lt-leb, lt-ltb, le-ltb, eq-eqb, ne-eqb}
+-- What `search` is handed where a function returns by the outcome of tests. Assumes nothing.
+use mathlib.Core.Path.{_≡_, _∙_}
+use mathlib.Core.Bool.{Bool, true, false, cond, _&&_, _||_, not}
+use borrow.Author.Tests.{le-leb, lt-leb, lt-ltb, le-ltb, eq-eqb, ne-eqb, not-true, not-false}
 
--- the first test of an `and` was passed, and x is the rest; it was not passed
-pub and-on : (a b r x : Bool) → r ≡ a → r ≡ true → x ≡ b → x ≡ (a && b)
-and-on a b r x e t q = q ∙ rw (← e, t)
+-- r is the outcome of the test t
+module _ (t r : Bool) (e : r ≡ t) where
+  -- the first test of an `and` was passed, and x is the rest; it was not passed
+  pub and-on : (b x : Bool) → r ≡ true → x ≡ b → x ≡ (t && b)
+  and-on b x h q = q ∙ rw (← e, h)
 
-pub and-off : (a b r : Bool) → r ≡ a → r ≡ false → r ≡ (a && b)
-and-off a b r e t = rw (← e, t)
+  pub and-off : (b : Bool) → r ≡ false → r ≡ (t && b)
+  and-off b h = rw (← e, h)
 
--- a test of numbers, from the fact that a branch hands over
-pub ruleset tests = (le-leb, lt-leb, lt-ltb, le-ltb, eq-eqb, ne-eqb, and-on, and-off)
+  pub or-on : (b : Bool) → r ≡ true → r ≡ (t || b)
+  or-on b h = rw (← e, h)
+
+  pub or-off : (b x : Bool) → r ≡ false → x ≡ b → x ≡ (t || b)
+  or-off b x h q = q ∙ rw (← e, h)
+
+  module _ {A : Type 0} (x y z : A) where
+    pub cond-on : r ≡ true → z ≡ x → z ≡ cond t x y
+    cond-on h q = q ∙ rw (← e, h)
+
+    pub cond-off : r ≡ false → z ≡ y → z ≡ cond t x y
+    cond-off h q = q ∙ rw (← e, h)
+
+    pub cond-not-on : r ≡ false → z ≡ x → z ≡ cond (not t) x y
+    cond-not-on h q = q ∙ rw (← e, h)
+
+    pub cond-not-off : r ≡ true → z ≡ y → z ≡ cond (not t) x y
+    cond-not-off h q = q ∙ rw (← e, h)
+
+-- a test of numbers, from the fact that a branch hands over; and the outcome of tests, in order
+pub ruleset tests = (le-leb, lt-leb, lt-ltb, le-ltb, eq-eqb, ne-eqb, not-true, not-false, and-on, and-off, or-on, or-off, cond-on, cond-off, cond-not-on, cond-not-off)

@@ -4,3 +4,4 @@ pub mod Node
 pub mod Client
 pub mod Lists
 pub mod View
+pub mod Steps

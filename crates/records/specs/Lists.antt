@@ -6,7 +6,7 @@ use Rattle.records.specs.declared.WriteId.{WriteId}
 use Rattle.records.specs.declared.Entry.{Entry}
 use Rattle.records.specs.declared.Mark.the-variants.{Recent, Old}
 use Rattle.records.specs.declared.Previous.{Previous}
-use Rattle.records.specs.declared.Previous.the-variants.{Id}
+use Rattle.records.specs.declared.Previous.the-variants.{Nothing, Id}
 use Rattle.records.specs.declared.write_ids.IdTest.{IdTest}
 use Rattle.records.specs.declared.write_ids.IdTest.the-variants as IdTest
 use Rattle.records.specs.declared.node_entries.EntryTest.{EntryTest}
@@ -65,3 +65,8 @@ changed Discard ids es = discard ids es
 -- the last recent id, one entry later
 abbrev pub lastRecentOf : Entry → Previous → Previous
 lastRecentOf e p = cond (isRecent e) (Id (e .id)) p
+
+-- "there is no previous id, or it isn't recent there"
+abbrev pub previousRecent : Previous → List Entry → Bool
+previousRecent Nothing es = false
+previousRecent (Id x) es = isRecentIn x es

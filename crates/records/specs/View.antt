@@ -7,7 +7,9 @@ use Rattle.records.specs.declared.WriteId.{WriteId}
 use Rattle.records.specs.declared.Entry.{Entry}
 use Rattle.records.specs.declared.Ids.{Ids}
 use Rattle.records.specs.declared.Entries.{Entries}
+use Rattle.records.specs.declared.NodeRecord.{NodeRecord}
 use Rattle.records.specs.Entries.{newEntry}
+use Rattle.records.specs.Node.{Node}
 
 abbrev pub blankId : WriteId
 blankId = record { client = 0; position = 0; number = record { 0 = 0 } }
@@ -17,3 +19,7 @@ idsOf s = listOf (s .count) (λ i. getD (s .items) i blankId)
 
 abbrev pub entriesOf : Entries → List Entry
 entriesOf s = listOf (s .count) (λ i. getD (s .items) i (newEntry blankId))
+
+abbrev pub nodeOf : NodeRecord → Node
+nodeOf x =
+    record { opmode = x .opmode; lmode = x .lmode; holder = x .holder; epoch = x .epoch; rset = x .rset .has; entries = entriesOf (x .entries) }

@@ -1,11 +1,13 @@
 // The records of a stripe: write ids, entries, nodes and clients, the sizes, and the refusals with their numbers.
 // The types are here; their methods, each with self by value, are in a file for each record.
+mod node; // node.rt: a node's record and its calls
 mod node_entries; // node_entries.rt: an entry, a node's list of entries
 mod ranges; // ranges.rt: the ranges of numbers, the limits of the sizes
 mod write_ids; // write_ids.rt: a write id, a client's list of ids
 
 ghost use mathlib.Core.Path.{_≡_};
 ghost use Rattle.records.specs.Sizes.{numberOf};
+use code::NodeSet;
 
 // A client's count of its writes.
 pub struct WriteNumber(pub u32);
@@ -76,6 +78,23 @@ pub enum Previous {
     Id(WriteId),
 }
 
+// A node but for its block, which is in the block table.
+pub struct NodeRecord {
+    pub opmode: Opmode,
+    pub lmode: Lmode,
+    pub holder: Holder,
+    pub epoch: Epoch,
+    pub rset: NodeSet,
+    pub entries: Entries,
+}
+
+// What a client knows of its write in hand; the set of nodes done is beside it.
+pub struct Write {
+    pub id: WriteId,
+    pub previous: Previous,
+    pub epoch: Epoch,
+}
+
 // k data nodes of n, blocks of b bytes, failures planned for (t_d), m clients.
 pub struct Sizes {
     pub k: usize,
@@ -99,6 +118,24 @@ pub enum Refusal {
     NotHeld,
     TooFew(u8),
     NoInverse,
+}
+
+pub enum NodeAnswer {
+    Accepted,
+    Refused(Refusal),
+}
+
+// A node's answer, and its record after the call.
+pub struct NodeStep {
+    pub answer: NodeAnswer,
+    pub node: NodeRecord,
+}
+
+// What a node tells of a write whose id it was sent: no recent entry; one, and the previous id is recent no more; no change.
+pub enum CheckAnswer {
+    Init,
+    Gc,
+    NoChange,
 }
 
 impl Refusal {

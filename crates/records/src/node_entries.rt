@@ -7,7 +7,7 @@ ghost use lib.Dec.{leb};
 ghost use lib.ListN.{length};
 ghost use Rattle.records.specs.Entries.{isRecent, isListed, isRecentIn, isOldIn, lastRecent, newEntry, enter, discard, markOld, someDue};
 ghost use Rattle.records.specs.Node.{entryLimit, entriesWithin};
-ghost use Rattle.records.specs.Lists.{passes, somePasses, olderEntry, markedEntry, isKept, offered, changed, lastRecentOf};
+ghost use Rattle.records.specs.Lists.{passes, somePasses, olderEntry, markedEntry, isKept, offered, changed, lastRecentOf, previousRecent};
 ghost use Rattle.records.specs.View.{idsOf, entriesOf};
 use crate::Age;
 use crate::Entries;
@@ -181,6 +181,16 @@ impl Entries {
         ensures { λ r. ⌜ r ≡ isRecentIn id (entriesOf self) ⌝ }
     {
         self.any(EntryTest::RecentOf(id))
+    }
+
+    pub fn has_recent_previous(self, p: Previous) -> bool
+        requires { ⌜ self .count ≤ 16 ⌝ }
+        ensures { λ r. ⌜ r ≡ previousRecent p (entriesOf self) ⌝ }
+    {
+        match p {
+            Previous::Nothing => false,
+            Previous::Id(id) => self.has_recent(id),
+        }
     }
 
     pub fn has_old(self, id: WriteId) -> bool
