@@ -10,5 +10,5 @@ has-recent-previous-spec =
     (λ c. search needs)
     (λ c. search needs)
     (λ c κs. search needs)
-    (λ c. cc)
-    (λ c. cc))
+    (λ c. rw (c .enum-told .given .1))
+    (λ c. rw (c .before .before .p .given .1) (c .has-recent .ensures)))

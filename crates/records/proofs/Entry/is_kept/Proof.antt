@@ -1,4 +1,4 @@
--- By the test. Assumes nothing.
+-- The two tests, in order. Assumes nothing.
 use borrow.Author.Needs.{needs}
 use Rattle.records.proofs.Entry.is_kept.Statement.{statement}
 use Rattle.records.proofs.Entry.is_kept.Tie as tie
@@ -9,5 +9,5 @@ is-kept-spec =
     (tie.spec
     (λ c κs. search needs)
     (λ c κs. search needs)
-    (λ c. cc)
-    (λ c. cc))
+    (λ c. rw (← c .before .is-recent .ensures, c .if1 .taken))
+    (λ c. rw (← c .before .before .is-recent .ensures, c .before .if1 .left, ← c .has .ensures)))

@@ -1,4 +1,6 @@
 -- By cases of the test. Assumes nothing.
+use mathlib.Core.Path.{ap}
+use mathlib.Core.Bool.{not}
 use borrow.Author.Needs.{needs}
 use Rattle.records.proofs.WriteId.passes.Statement.{statement}
 use Rattle.records.proofs.WriteId.passes.Tie as tie
@@ -11,5 +13,5 @@ passes-spec =
     (λ c κs. search needs)
     (λ c. search needs)
     (λ c κs. search needs)
-    (λ c. cc)
-    (λ c. cc))
+    (λ c. rw (c .before .before .test .given .1) (c .same .ensures))
+    (λ c. rw (c .before .before .test2 .given .1) (ap not (c .is-within .ensures))))
