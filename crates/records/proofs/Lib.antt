@@ -1,3 +1,4 @@
+pub mod Clients
 pub mod Limits
 pub mod Lists
 pub mod Steps

@@ -47,12 +47,15 @@ aged-count [] = refl
 aged-count (e ∷ es) = ap suc (aged-count es)
 
 -- what owning an array tells of its list's length is told of the elements' machine values
+pub length-array : {A B : Type 0} (f : A → B) (l : List A) (n : ℕ) → length (map f l) ≡ n → length l ≡ n
+length-array f l n e = sym (length-map l f) ∙ e
+
 module _ {A B : Type 0} (f : A → B) (l : List A) (i n : ℕ) (e : length (map f l) ≡ n) where
   pub below-array : i < n → i < length l
-  below-array h = omega (arith, length-map l f)
+  below-array h = omega (arith, length-array f l n e)
 
   pub past-array : n ≤ i → length l ≤ i
-  past-array h = omega (arith, length-map l f)
+  past-array h = omega (arith, length-array f l n e)
 
 -- a store after the last of the n
 pub listOf-push : {A : Type 0} (l : List A) (n : ℕ) (x d : A) → n < length l

@@ -6,7 +6,7 @@ use Rattle.records.specs.declared.NodeAnswer.{NodeAnswer}
 use Rattle.records.specs.declared.NodeAnswer.the-variants.{Accepted, Refused}
 use Rattle.records.specs.declared.Refusal.{Refusal}
 use Rattle.records.specs.Node.{Node}
-use Rattle.records.specs.Steps.{Meets}
+use Rattle.records.specs.NodeSteps.{Meets}
 use Rattle.records.specs.View.{nodeOf}
 
 module _ {answer : NodeAnswer} {after : Node} {before : NodeRecord} {r : NodeStep} where

@@ -4,4 +4,5 @@ pub mod Node
 pub mod Client
 pub mod Lists
 pub mod View
-pub mod Steps
+pub mod NodeSteps
+pub mod ClientSteps

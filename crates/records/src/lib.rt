@@ -1,5 +1,6 @@
 // The records of a stripe: write ids, entries, nodes and clients, the sizes, and the refusals with their numbers.
 // The types are here; their methods, each with self by value, are in a file for each record.
+mod client; // client.rt: a client's record, its write in hand, its rebuild
 mod node; // node.rt: a node's record and its calls
 mod node_entries; // node_entries.rt: an entry, a node's list of entries
 mod ranges; // ranges.rt: the ranges of numbers, the limits of the sizes
@@ -93,6 +94,36 @@ pub struct Write {
     pub id: WriteId,
     pub previous: Previous,
     pub epoch: Epoch,
+}
+
+pub enum Hand {
+    Empty,
+    Holding(Write),
+}
+
+// How far a rebuild is: the locks made; the lowest node not tightened since the weaken, 0 if there is none; from then on the next node of the
+// phase, and E.
+pub enum Phase {
+    NoRebuild,
+    Locking(u8),
+    Picking(u8),
+    Writing(u8, Epoch),
+    Settling(u8, Epoch),
+    Unlocking(u8),
+}
+
+// A client but for its difference, which is in the table of differences. Beside the hand: the nodes done; beside the phase: the nodes that were
+// EXP when they were locked, and the set picked.
+pub struct ClientRecord {
+    pub hand: Hand,
+    pub done: NodeSet,
+    pub phase: Phase,
+    pub expired: NodeSet,
+    pub set: NodeSet,
+    pub finished: Ids,
+    pub moved: Ids,
+    pub round: u8,
+    pub next: WriteNumber,
 }
 
 // k data nodes of n, blocks of b bytes, failures planned for (t_d), m clients.

@@ -4,7 +4,7 @@ ghost use mathlib.Core.Path.{_≡_};
 ghost use Prim.Native.Nat.{_<_, _≤_};
 ghost use Rattle.records.specs.Entries.{discard, markOld};
 ghost use Rattle.records.specs.Node.{epochLimit, freshNode, failedNode, isNorm, isRecons, isInit, isUnl, isExp, isL0, isL1, isHolder, isFree, takesAdd, heldBy, heldAtL1, withEntries, withLmode, entered, lockedBy, weakenedBy, unlocked, expiredFor, givenBack, written, settled, isDue, holderWithin, setWithin, nodeWithin};
-ghost use Rattle.records.specs.Steps.{Meets, emptyNode, enterAnswer, swapAnswer, afterPrevious, addAnswer, sweepAnswer, lockAnswer, checkAnswer};
+ghost use Rattle.records.specs.NodeSteps.{Meets, emptyNode, enterAnswer, swapAnswer, afterPrevious, addAnswer, sweepAnswer, lockAnswer, checkAnswer};
 ghost use Rattle.records.specs.View.{idsOf, nodeOf};
 use crate::CheckAnswer;
 use crate::Entries;
@@ -24,7 +24,7 @@ use crate::WriteId;
 use code::NodeSet;
 
 // Whether every member is one of the nodes 1 to n.
-fn is_set_within(set: NodeSet, n: usize) -> bool
+pub(crate) fn is_set_within(set: NodeSet, n: usize) -> bool
     ensures { λ r. ⌜ r ≡ setWithin n (set .has) ⌝ }
 {
     let mut j = n;
