@@ -1,4 +1,14 @@
 // The records of a stripe: write ids, entries, nodes and clients, the sizes, and the refusals with their numbers.
+// The types are here; their methods, each with self by value, are in a file for each record.
+mod client; // client.rt: a client's record, its write in hand, its rebuild
+mod node; // node.rt: a node's record and its calls
+mod node_entries; // node_entries.rt: an entry, a node's list of entries
+mod ranges; // ranges.rt: the ranges of numbers, the limits of the sizes
+mod write_ids; // write_ids.rt: a write id, a client's list of ids
+
+ghost use mathlib.Core.Path.{_≡_};
+ghost use Rattle.records.specs.Sizes.{numberOf};
+use code::NodeSet;
 
 // A client's count of its writes.
 pub struct WriteNumber(pub u32);
@@ -26,6 +36,26 @@ pub struct Entry {
     pub age: Age,
 }
 
+impl Entries {
+    pub const LIMIT: usize = 16;
+}
+
+// A node's entries in order of arrival: the first count items.
+pub struct Entries {
+    pub items: [Entry; Entries::LIMIT],
+    pub count: usize,
+}
+
+impl Ids {
+    pub const LIMIT: usize = 8;
+}
+
+// A client's list of ids: the first count items.
+pub struct Ids {
+    pub items: [WriteId; Ids::LIMIT],
+    pub count: usize,
+}
+
 pub enum Opmode {
     Norm,
     Recons,
@@ -47,6 +77,53 @@ pub enum Holder {
 pub enum Previous {
     Nothing,
     Id(WriteId),
+}
+
+// A node but for its block, which is in the block table.
+pub struct NodeRecord {
+    pub opmode: Opmode,
+    pub lmode: Lmode,
+    pub holder: Holder,
+    pub epoch: Epoch,
+    pub rset: NodeSet,
+    pub entries: Entries,
+}
+
+// What a client knows of its write in hand; the set of nodes done is beside it.
+pub struct Write {
+    pub id: WriteId,
+    pub previous: Previous,
+    pub epoch: Epoch,
+}
+
+pub enum Hand {
+    Empty,
+    Holding(Write),
+}
+
+// How far a rebuild is: the locks made; the lowest node not tightened since the weaken, 0 if there is none; from then on the next node of the
+// phase, and E.
+pub enum Phase {
+    NoRebuild,
+    Locking(u8),
+    Picking(u8),
+    Writing(u8, Epoch),
+    Settling(u8, Epoch),
+    Unlocking(u8),
+}
+
+// A client but for its difference, which is in the table of differences. Beside the hand: the nodes done; beside the phase: the nodes that were
+// EXP when they were locked, and the set picked.
+pub struct ClientRecord {
+    pub hand: Hand,
+    pub done: NodeSet,
+    pub phase: Phase,
+    pub expired: NodeSet,
+    pub set: NodeSet,
+    pub finished: Ids,
+    pub moved: Ids,
+    pub round: u8,
+    pub next: WriteNumber,
 }
 
 // k data nodes of n, blocks of b bytes, failures planned for (t_d), m clients.
@@ -72,4 +149,44 @@ pub enum Refusal {
     NotHeld,
     TooFew(u8),
     NoInverse,
+}
+
+pub enum NodeAnswer {
+    Accepted,
+    Refused(Refusal),
+}
+
+// A node's answer, and its record after the call.
+pub struct NodeStep {
+    pub answer: NodeAnswer,
+    pub node: NodeRecord,
+}
+
+// What a node tells of a write whose id it was sent: no recent entry; one, and the previous id is recent no more; no change.
+pub enum CheckAnswer {
+    Init,
+    Gc,
+    NoChange,
+}
+
+impl Refusal {
+    // The number of document 01's table.
+    pub fn number(self) -> u8
+        ensures { λ r. ⌜ r ≡ numberOf self ⌝ }
+    {
+        match self {
+            Refusal::OutOfLimits => 1,
+            Refusal::OutOfRange => 2,
+            Refusal::OutOfPhase => 3,
+            Refusal::WrongMode(_, _) => 4,
+            Refusal::OldEpoch(_) => 5,
+            Refusal::BeforePrevious(_) => 6,
+            Refusal::Full => 7,
+            Refusal::Exhausted => 8,
+            Refusal::Locked => 9,
+            Refusal::NotHeld => 10,
+            Refusal::TooFew(_) => 11,
+            Refusal::NoInverse => 12,
+        }
+    }
 }

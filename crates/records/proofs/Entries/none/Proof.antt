@@ -1,0 +1,10 @@
+-- A count of 0. Assumes nothing.
+use mathlib.Core.Path.{refl}
+use borrow.Author.Needs.{needs}
+use Rattle.blocks.specs.Blocks.{listOf}
+use Rattle.records.proofs.Entries.none.Statement.{statement}
+use Rattle.records.proofs.Entries.none.Tie as tie
+
+pub none-spec : {M : Type 1} → statement M
+unfolding listOf
+none-spec = tie.close (tie.spec (λ c κs. search needs) (λ c κs. search needs) (λ c. refl))

@@ -1,0 +1,13 @@
+-- The two tests, in order. Assumes nothing.
+use borrow.Author.Needs.{needs}
+use Rattle.records.proofs.Entry.is_kept.Statement.{statement}
+use Rattle.records.proofs.Entry.is_kept.Tie as tie
+
+pub is-kept-spec : {M : Type 1} → statement M
+is-kept-spec =
+    tie.close
+    (tie.spec
+    (λ c κs. search needs)
+    (λ c κs. search needs)
+    (λ c. rw (← c .before .is-recent .ensures, c .if1 .taken))
+    (λ c. rw (← c .before .before .is-recent .ensures, c .before .if1 .left, ← c .has .ensures)))

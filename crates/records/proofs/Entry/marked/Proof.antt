@@ -1,0 +1,9 @@
+-- By the test. Assumes nothing.
+use borrow.Author.Needs.{needs}
+use Rattle.records.proofs.Entry.marked.Statement.{statement}
+use Rattle.records.proofs.Entry.marked.Tie as tie
+
+pub marked-spec : {M : Type 1} → statement M
+marked-spec =
+    tie.close
+    (tie.spec (λ c κs. search needs) (λ c. rw (← c .before .has .ensures, c .if1 .taken)) (λ c. rw (← c .before .has .ensures, c .if1 .left)))

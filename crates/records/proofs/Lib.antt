@@ -1,0 +1,5 @@
+pub mod Clients
+pub mod Limits
+pub mod Lists
+pub mod Steps
+pub mod Tests

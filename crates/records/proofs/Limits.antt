@@ -1,0 +1,87 @@
+-- The limits of a record's parts, by the tests of the code. Assumes nothing.
+use mathlib.Core.Path.{_≡_, refl, sym, ap, _∙_}
+use mathlib.Core.Bool.{Bool, true, false, _&&_, _||_, not, and-assoc}
+use mathlib.Core.List.{List, [], _∷_}
+use mathlib.Core.Option.{Option, none, some}
+use Prim.Native.Nat.{ℕ, zero, suc, _+_, _≤_, _<_}
+use native.Mathlib.Numerals.{add-one}
+use native.Mathlib.Omega.{arith}
+use lib.Dec.{leb}
+use borrow.Author.Tests.{le-leb, ltb-true}
+use lib.ListN.{length, getD, drop, drop-of-length-le}
+use lib.Seq.{drop-cons}
+use Rattle.gf256.proofs.Computed.{and-left, and-right}
+use Rattle.code.specs.Code.{codeSizes}
+use Rattle.code.specs.Decode.{NodeSet}
+use Rattle.code.proofs.Sizes.{sizes-of}
+use Rattle.records.specs.declared.Sizes.{Sizes}
+use Rattle.records.specs.declared.Lmode.{Lmode}
+use Rattle.records.specs.declared.Lmode.the-variants.{Unl, L0, L1, Exp}
+use Rattle.records.specs.declared.Holder.the-variants as Holder
+use Rattle.records.specs.declared.WriteId.{WriteId}
+use Rattle.records.specs.Sizes.{sizesWithin, isClient}
+use Rattle.records.specs.Node.{isL0, isL1, holderWithin, setWithin}
+use Rattle.records.specs.Client.{Client, Write, finishedLimit, handWithin, rebuildWithin, idsWithin, clientWithin}
+use Rattle.records.specs.ClientSteps.{listsWithin}
+
+-- no holder where nobody can be one; a client where there is one
+pub nobody-within : (z : Sizes) (l : Lmode) → not (isL0 l || isL1 l) ≡ holderWithin z l Holder.Nobody
+nobody-within z Unl = refl
+nobody-within z L0 = refl
+nobody-within z L1 = refl
+nobody-within z Exp = refl
+
+pub client-within : (z : Sizes) (l : Lmode) (c : ℕ) → ((isL0 l || isL1 l) && isClient z c) ≡ holderWithin z l (Holder.Client c)
+client-within z Unl c = refl
+client-within z L0 c = refl
+client-within z L1 c = refl
+client-within z Exp c = refl
+
+-- ---- a loop over the places of the nodes past n: s is within where it has no place from j on
+
+pub set-from : (n : ℕ) (s : NodeSet) → setWithin n s ≡ setWithin 0 (drop n s)
+unfolding setWithin
+set-from zero s = refl
+set-from (suc n) [] = refl
+set-from (suc n) (b ∷ s) = set-from n s
+
+module _ (s : NodeSet) (j : ℕ) {v : Bool} (q : v ≡ setWithin 0 (drop j s)) where
+  place : j < length s → v ≡ (not (getD s j false) && setWithin 0 (drop (j + 1) s))
+  unfolding setWithin
+  place h = q ∙ rw (add-one j, drop-cons s j false h)
+
+  pub set-on : j < length s → getD s j false ≡ false → v ≡ setWithin 0 (drop (j + 1) s)
+  set-on h t = place h ∙ rw t
+
+  pub set-hit : j < length s → getD s j false ≡ true → false ≡ v
+  set-hit h t = sym (place h ∙ rw t)
+
+  pub set-end : length s ≤ j → true ≡ v
+  unfolding setWithin
+  set-end h = sym (q ∙ ap (setWithin 0) (drop-of-length-le s h))
+
+-- ---- a client
+
+-- n is at most 12 + 6
+pub nodes-few : (z : Sizes) → sizesWithin z ≡ true → z .n ≤ 18
+unfolding sizesWithin
+nodes-few z e = omega (arith, sizes-of (z .k) (z .n) (z .b) (and-left (codeSizes (z .k) (z .n) (z .b)) _ e))
+
+-- within its limits a hand leaves at most 8 finished ids
+hand-room : (z : Sizes) (hand : Option Write) (ids : List WriteId) → handWithin z hand ids ≡ true → leb (length ids) finishedLimit ≡ true
+hand-room z none ids e = e
+hand-room z (some w) ids e = le-leb (length ids) 8 (omega (arith, few))
+  where
+    few : length ids < 8
+    few = search (and-right, ltb-true)
+
+-- so the test of the finished list's length may stand beside that of its ids
+pub client-tests : (z : Sizes) (x : Client) → clientWithin z x ≡ (handWithin z (x .hand) (x .finished) && (rebuildWithin z (x .rebuild) && listsWithin z x))
+unfolding clientWithin
+client-tests z x =
+    beside (handWithin z (x .hand) (x .finished)) (rebuildWithin z (x .rebuild)) (leb (length (x .finished)) finishedLimit) (idsWithin z (x .finished))
+    (leb (length (x .moved)) finishedLimit) (idsWithin z (x .moved)) _ (hand-room z (x .hand) (x .finished))
+  where
+    beside : (h r l f m i w : Bool) → (h ≡ true → l ≡ true) → (h && (r && (f && (m && (i && w))))) ≡ (h && (r && ((l && f) && ((m && i) && w))))
+    beside true r l f m i w e = rw (e refl, and-assoc m i w)
+    beside false r l f m i w e = refl

@@ -1,0 +1,235 @@
+-- What the loops over an array with a count cite: a list by its places (`listOf`) after one place more, for each kind of loop. Assumes nothing.
+use mathlib.Core.Path.{_≡_, refl, sym, ap, ap₂, _∙_}
+use mathlib.Core.Logic.{_≢_, _⊎_, inl, inr}
+use mathlib.Core.Bool.{Bool, true, false, cond, _&&_, _||_, not, and-assoc, or-assoc, or-true, or-false}
+use mathlib.Core.List.{List, [], _∷_, _++_, map, append-assoc, append-nil}
+use Prim.Native.Nat.{ℕ, zero, suc, _+_, _≤_, _<_}
+use native.Mathlib.Nat.{eq-or-lt-of-le, le-of-suc-le-suc}
+use native.Mathlib.Numerals.{add-one}
+use native.Mathlib.Omega.{arith}
+use lib.Dec.{leb}
+use lib.ListN.{length, getD, set, length-append, length-map}
+use lib.Seq.{getD-set-same, getD-set-other}
+use Rattle.blocks.specs.Blocks.{listOf}
+use Rattle.blocks.proofs.Tables.{length-listOf, listOf-cong}
+use Rattle.records.specs.declared.WriteId.{WriteId}
+use Rattle.records.specs.declared.Entry.{Entry}
+use Rattle.records.specs.declared.Ids.{Ids}
+use Rattle.records.specs.declared.Entries.{Entries}
+use Rattle.records.specs.declared.Previous.{Previous}
+use Rattle.records.specs.declared.Previous.the-variants.{Nothing, Id}
+use Rattle.records.specs.declared.write_ids.IdTest.{IdTest}
+use Rattle.records.specs.declared.write_ids.IdTest.the-variants as IdTest
+use Rattle.records.specs.declared.node_entries.EntryTest.{EntryTest}
+use Rattle.records.specs.declared.node_entries.EntryTest.the-variants as EntryTest
+use Rattle.records.specs.declared.node_entries.EntryChange.{EntryChange}
+use Rattle.records.specs.declared.node_entries.EntryChange.the-variants as EntryChange
+use Rattle.records.specs.Entries.{isRecent, isIn, isListed, isRecentIn, isOldIn, lastRecent, lastRecentAfter, newEntry, aged, discard, markOld, someDue}
+use Rattle.records.specs.Node.{idWithin, entriesWithin}
+use Rattle.records.specs.Client.{idsWithin}
+use Rattle.records.specs.Lists.{idPasses, someIdPasses, passes, somePasses, isKept, offered, changed, lastRecentOf}
+use Rattle.records.specs.View.{blankId, idsOf, entriesOf}
+
+pub listOf-more : {A : Type 0} (i : ℕ) (at : ℕ → A) → listOf (i + 1) at ≡ listOf i at ++ (at i ∷ [])
+unfolding listOf
+listOf-more i at = rw add-one
+
+-- a list is as long as its count says
+pub ids-count : (s : Ids) → length (idsOf s) ≡ s .count
+ids-count s = length-listOf (s .count) (λ i. getD (s .items) i blankId)
+
+pub entries-count : (s : Entries) → length (entriesOf s) ≡ s .count
+entries-count s = length-listOf (s .count) (λ i. getD (s .items) i (newEntry blankId))
+
+pub aged-count : (es : List Entry) → length (aged es) ≡ length es
+unfolding aged
+aged-count [] = refl
+aged-count (e ∷ es) = ap suc (aged-count es)
+
+-- what owning an array tells of its list's length is told of the elements' machine values
+pub length-array : {A B : Type 0} (f : A → B) (l : List A) (n : ℕ) → length (map f l) ≡ n → length l ≡ n
+length-array f l n e = sym (length-map l f) ∙ e
+
+module _ {A B : Type 0} (f : A → B) (l : List A) (i n : ℕ) (e : length (map f l) ≡ n) where
+  pub below-array : i < n → i < length l
+  below-array h = omega (arith, length-array f l n e)
+
+  pub past-array : n ≤ i → length l ≤ i
+  past-array h = omega (arith, length-array f l n e)
+
+-- a store after the last of the n
+pub listOf-push : {A : Type 0} (l : List A) (n : ℕ) (x d : A) → n < length l
+    → listOf (n + 1) (λ i. getD (set l n x) i d) ≡ listOf n (λ i. getD l i d) ++ (x ∷ [])
+listOf-push l n x d h =
+    listOf-more n (λ i. getD (set l n x) i d)
+    ∙ ap₂ (λ a b. a ++ (b ∷ [])) (listOf-cong n (λ i. getD (set l n x) i d) (λ i. getD l i d) other) (getD-set-same l n x d h)
+  where
+    other : (i : ℕ) → i < n → getD (set l n x) i d ≡ getD l i d
+    other i below = getD-set-other l n i x d (λ e. omega arith)
+
+-- ---- a loop that looks for an element: p the test of an element, some that of a list
+
+pub record Search {A : Type 0} (p : A → Bool) (some : List A → Bool) : Type 0 where
+  pub none : some [] ≡ false
+  pub more : (x : A) (l : List A) → some (x ∷ l) ≡ (p x || some l)
+
+-- none of the first i of n elements passes
+pub record Searched {A : Type 0} (some : List A → Bool) (at : ℕ → A) (i n : ℕ) : Type 0 where
+  pub within : i ≤ n
+  pub none : some (listOf i at) ≡ false
+
+pub search-end : {A : Type 0} {some : List A → Bool} {at : ℕ → A} {i n : ℕ} → Searched some at i n → n ≤ i → false ≡ some (listOf n at)
+search-end {A} {some} {at} {i} {n} q h = let e : i ≡ n = omega arith in sym (rw e at (q .none))
+
+module _ {A : Type 0} {p : A → Bool} {some : List A → Bool} (s : Search p some) where
+  some-last : (l : List A) (x : A) → some (l ++ (x ∷ [])) ≡ (some l || p x)
+  some-last [] x = s .more x [] ∙ rw (s .none) (or-false (p x))
+  some-last (y ∷ l) x = s .more y (l ++ (x ∷ [])) ∙ rw (some-last l x, s .more y l) (sym (or-assoc (p y) (some l) (p x)))
+
+  some-more : (at : ℕ → A) (i : ℕ) → some (listOf (i + 1) at) ≡ (some (listOf i at) || p (at i))
+  some-more at i = ap some (listOf-more i at) ∙ some-last (listOf i at) (at i)
+
+  some-at : (at : ℕ → A) (i n : ℕ) → i < n → p (at i) ≡ true → some (listOf n at) ≡ true
+  some-at at i zero h t = absurd (omega arith)
+  some-at at i (suc n) h t = rw (← add-one n, some-more at n) (go (eq-or-lt-of-le (le-of-suc-le-suc h)) (λ l. some-at at i n l t))
+    where
+      go : (i ≡ n) ⊎ (i < n) → (i < n → some (listOf n at) ≡ true) → (some (listOf n at) || p (at n)) ≡ true
+      go (inl q) earlier = rw (← q, t) (or-true (some (listOf i at)))
+      go (inr l) earlier = rw (earlier l)
+
+  pub search-start : {at : ℕ → A} {n : ℕ} → Searched some at 0 n
+  unfolding listOf
+  search-start = record { within = omega arith; none = s .none }
+
+  -- a turn, where r is the test of element i
+  module _ {at : ℕ → A} {i n : ℕ} {r : Bool} (q : Searched some at i n) (h : i < n) (e : r ≡ p (at i)) where
+    pub search-on : r ≡ false → Searched some at (i + 1) n
+    search-on t = record { within = omega arith; none = some-more at i ∙ rw (q .none, ← e, t) }
+
+    pub search-hit : r ≡ true → true ≡ some (listOf n at)
+    search-hit t = sym (some-at at i n h (sym e ∙ t))
+
+not-and : (a b : Bool) → not (a && b) ≡ (not a || not b)
+not-and true b = refl
+not-and false b = refl
+
+pub ids-search : (t : IdTest) → Search (idPasses t) (someIdPasses t)
+unfolding isIn idsWithin
+ids-search (IdTest.Is y) = record { none = refl; more = λ x ids. refl }
+ids-search (IdTest.Outside z) = record { none = refl; more = λ x ids. not-and (idWithin z x) (idsWithin z ids) }
+
+pub entries-search : (t : EntryTest) → Search (passes t) (somePasses t)
+unfolding isListed isRecentIn isOldIn someDue entriesWithin
+entries-search (EntryTest.Of x) = record { none = refl; more = λ e es. refl }
+entries-search (EntryTest.RecentOf x) = record { none = refl; more = λ e es. refl }
+entries-search (EntryTest.OldOf x) = record { none = refl; more = λ e es. refl }
+entries-search EntryTest.Due = record { none = refl; more = λ e es. refl }
+entries-search (EntryTest.Outside z) = record {
+  none = refl;
+  more =
+      λ e es.
+      ap not (sym (and-assoc (idWithin z (e .id)) (leb (e .age .0) 255) (entriesWithin z es)))
+      ∙ not-and (idWithin z (e .id) && leb (e .age .0) 255) (entriesWithin z es);
+}
+
+-- ---- a loop that changes a list: an entry more, what is left of it more
+
+module _ (c : EntryChange) (ids : List WriteId) where
+  -- the first entry, and the rest
+  changed-more : (e : Entry) (es : List Entry) → changed c ids (e ∷ es) ≡ offered c ids e ++ changed c ids es
+  unfolding aged discard markOld
+  changed-more e es = go c
+    where
+      kept : (b : Bool) (rest : List Entry) → cond b rest (e ∷ rest) ≡ cond (not b) (e ∷ []) [] ++ rest
+      kept true rest = refl
+      kept false rest = refl
+
+      go : (d : EntryChange) → changed d ids (e ∷ es) ≡ offered d ids e ++ changed d ids es
+      go EntryChange.Age = refl
+      go EntryChange.Mark = refl
+      go EntryChange.Discard = kept (not (isRecent e) && isIn (e .id) ids) (discard ids es)
+
+  pub changed-none : changed c ids [] ≡ []
+  unfolding aged discard markOld
+  changed-none = go c
+    where
+      go : (d : EntryChange) → changed d ids [] ≡ []
+      go EntryChange.Age = refl
+      go EntryChange.Mark = refl
+      go EntryChange.Discard = refl
+
+  changed-last : (es : List Entry) (e : Entry) → changed c ids (es ++ (e ∷ [])) ≡ changed c ids es ++ offered c ids e
+  changed-last [] e = changed-more e [] ∙ rw changed-none (append-nil (offered c ids e))
+  changed-last (x ∷ es) e =
+      changed-more x (es ++ (e ∷ [])) ∙ rw (changed-last es e, changed-more x es)
+      (sym (append-assoc (offered c ids x) (changed c ids es) (offered c ids e)))
+
+  changed-at : (i : ℕ) (at : ℕ → Entry) → changed c ids (listOf (i + 1) at) ≡ changed c ids (listOf i at) ++ offered c ids (at i)
+  changed-at i at = ap (changed c ids) (listOf-more i at) ∙ changed-last (listOf i at) (at i)
+
+  offered-few : (e : Entry) → length (offered c ids e) ≤ 1
+  offered-few e = go c
+    where
+      kept : (b : Bool) → length (cond b (e ∷ []) []) ≤ 1
+      kept true = omega arith
+      kept false = omega arith
+
+      go : (d : EntryChange) → length (offered d ids e) ≤ 1
+      go EntryChange.Age = omega arith
+      go EntryChange.Mark = omega arith
+      go EntryChange.Discard = kept (isKept ids e)
+
+-- out is what the change leaves of the first i of n entries
+pub record Changed (c : EntryChange) (ids : List WriteId) (at : ℕ → Entry) (out : Entries) (i n : ℕ) : Type 0 where
+  pub within : i ≤ n
+  pub few : out .count ≤ i
+  pub is : entriesOf out ≡ changed c ids (listOf i at)
+
+module _ {c : EntryChange} {ids : List WriteId} {at : ℕ → Entry} {out : Entries} {n : ℕ} where
+  pub change-start : entriesOf out ≡ [] → Changed c ids at out 0 n
+  unfolding listOf
+  change-start e = record {
+    within = omega arith;
+    few = omega (arith, entries-count out, ap length e);
+    is = e ∙ sym (changed-none c ids);
+  }
+
+  module _ {i : ℕ} (q : Changed c ids at out i n) where
+    pub change-on : {r : Entries} → i < n → entriesOf r ≡ entriesOf out ++ offered c ids (at i) → Changed c ids at r (i + 1) n
+    change-on {r} h e = record {
+      within = omega arith;
+      few =
+          omega
+          (arith, entries-count r, entries-count out, ap length e, length-append (entriesOf out) (offered c ids (at i)), offered-few c ids (at i));
+      is = e ∙ rw (q .is) (sym (changed-at c ids i at));
+    }
+
+    pub change-end : n ≤ i → entriesOf out ≡ changed c ids (listOf n at)
+    change-end h = let e : i ≡ n = omega arith in rw e at (q .is)
+
+-- ---- a loop that remembers the last recent id
+
+last-last : (p : Previous) (es : List Entry) (e : Entry) → lastRecentAfter p (es ++ (e ∷ [])) ≡ lastRecentOf e (lastRecentAfter p es)
+unfolding lastRecentAfter
+last-last p [] e = refl
+last-last p (x ∷ es) e = last-last (lastRecentOf x p) es e
+
+-- p is the last recent id of the first i of n entries
+pub record Lasting (at : ℕ → Entry) (p : Previous) (i n : ℕ) : Type 0 where
+  pub within : i ≤ n
+  pub is : p ≡ lastRecent (listOf i at)
+
+module _ {at : ℕ → Entry} {n : ℕ} where
+  pub last-start : Lasting at Nothing 0 n
+  unfolding listOf lastRecentAfter
+  last-start = record { within = omega arith; is = refl }
+
+  module _ {p : Previous} {i : ℕ} (q : Lasting at p i n) where
+    pub last-on : {r : Previous} → i < n → r ≡ lastRecentOf (at i) p → Lasting at r (i + 1) n
+    last-on h e = record {
+      within = omega arith;
+      is = e ∙ ap (lastRecentOf (at i)) (q .is) ∙ sym (ap lastRecent (listOf-more i at) ∙ last-last Nothing (listOf i at) (at i));
+    }
+
+    pub last-end : n ≤ i → p ≡ lastRecent (listOf n at)
+    last-end h = let e : i ≡ n = omega arith in rw e at (q .is)

@@ -1,0 +1,72 @@
+-- What the loops over a list ask of each element, and do to each entry, by the enums of the code; and the same of the whole list. Assumes nothing.
+use mathlib.Core.Bool.{Bool, true, false, cond, _&&_, not}
+use mathlib.Core.List.{List, [], _∷_}
+use lib.Dec.{leb}
+use Rattle.records.specs.declared.WriteId.{WriteId}
+use Rattle.records.specs.declared.Entry.{Entry}
+use Rattle.records.specs.declared.Mark.the-variants.{Recent, Old}
+use Rattle.records.specs.declared.Previous.{Previous}
+use Rattle.records.specs.declared.Previous.the-variants.{Nothing, Id}
+use Rattle.records.specs.declared.write_ids.IdTest.{IdTest}
+use Rattle.records.specs.declared.write_ids.IdTest.the-variants as IdTest
+use Rattle.records.specs.declared.node_entries.EntryTest.{EntryTest}
+use Rattle.records.specs.declared.node_entries.EntryTest.the-variants.{Of, RecentOf, OldOf, Due, Outside}
+use Rattle.records.specs.declared.node_entries.EntryChange.{EntryChange}
+use Rattle.records.specs.declared.node_entries.EntryChange.the-variants.{Age, Mark, Discard}
+use Rattle.records.specs.Entries.{sameId, isRecent, isIn, isListed, isRecentIn, isOldIn, older, aged, discard, markOld, someDue}
+use Rattle.records.specs.Node.{idWithin, entriesWithin}
+use Rattle.records.specs.Client.{idsWithin}
+
+-- an id passes the test; some id of the list does
+abbrev pub idPasses : IdTest → WriteId → Bool
+idPasses (IdTest.Is y) x = sameId x y
+idPasses (IdTest.Outside z) x = not (idWithin z x)
+
+abbrev pub someIdPasses : IdTest → List WriteId → Bool
+someIdPasses (IdTest.Is y) ids = isIn y ids
+someIdPasses (IdTest.Outside z) ids = not (idsWithin z ids)
+
+-- an entry passes the test; some entry of the list does
+abbrev pub passes : EntryTest → Entry → Bool
+passes (Of x) e = sameId (e .id) x
+passes (RecentOf x) e = isRecent e && sameId (e .id) x
+passes (OldOf x) e = not (isRecent e) && sameId (e .id) x
+passes Due e = isRecent e && leb 64 (e .age .0)
+passes (Outside z) e = not (idWithin z (e .id) && leb (e .age .0) 255)
+
+abbrev pub somePasses : EntryTest → List Entry → Bool
+somePasses (Of x) es = isListed x es
+somePasses (RecentOf x) es = isRecentIn x es
+somePasses (OldOf x) es = isOldIn x es
+somePasses Due es = someDue es
+somePasses (Outside z) es = not (entriesWithin z es)
+
+-- an entry one older; marked old if its id is in the list; whether it is kept when the ids of the list are discarded
+abbrev pub olderEntry : Entry → Entry
+olderEntry e = record { id = e .id; mark = e .mark; age = older (e .age) }
+
+abbrev pub markedEntry : List WriteId → Entry → Entry
+markedEntry ids e = record { id = e .id; mark = cond (isIn (e .id) ids) Old (e .mark); age = e .age }
+
+abbrev pub isKept : List WriteId → Entry → Bool
+isKept ids e = not (not (isRecent e) && isIn (e .id) ids)
+
+-- what the change leaves of an entry, and of the list
+abbrev pub offered : EntryChange → List WriteId → Entry → List Entry
+offered Age ids e = olderEntry e ∷ []
+offered Mark ids e = markedEntry ids e ∷ []
+offered Discard ids e = cond (isKept ids e) (e ∷ []) []
+
+abbrev pub changed : EntryChange → List WriteId → List Entry → List Entry
+changed Age ids es = aged es
+changed Mark ids es = markOld ids es
+changed Discard ids es = discard ids es
+
+-- the last recent id, one entry later
+abbrev pub lastRecentOf : Entry → Previous → Previous
+lastRecentOf e p = cond (isRecent e) (Id (e .id)) p
+
+-- "there is no previous id, or it isn't recent there"
+abbrev pub previousRecent : Previous → List Entry → Bool
+previousRecent Nothing es = false
+previousRecent (Id x) es = isRecentIn x es

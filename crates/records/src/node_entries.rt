@@ -1,0 +1,282 @@
+// Entries, and a node's list of them.
+ghost use mathlib.Core.Bool.{_&&_};
+ghost use mathlib.Core.List.{[], _∷_, _++_};
+ghost use mathlib.Core.Path.{_≡_};
+ghost use Prim.Native.Nat.{_<_, _≤_};
+ghost use lib.Dec.{leb};
+ghost use lib.ListN.{length};
+ghost use Rattle.records.specs.Entries.{isRecent, isListed, isRecentIn, isOldIn, lastRecent, newEntry, enter, discard, markOld, someDue};
+ghost use Rattle.records.specs.Node.{entryLimit, entriesWithin};
+ghost use Rattle.records.specs.Lists.{passes, somePasses, olderEntry, markedEntry, isKept, offered, changed, lastRecentOf, previousRecent};
+ghost use Rattle.records.specs.View.{idsOf, entriesOf};
+use crate::Age;
+use crate::Entries;
+use crate::Entry;
+use crate::Ids;
+use crate::Mark;
+use crate::Previous;
+use crate::Sizes;
+use crate::WriteId;
+
+// What is asked of an entry.
+pub enum EntryTest {
+    Of(WriteId),
+    RecentOf(WriteId),
+    OldOf(WriteId),
+    Due,
+    Outside(Sizes),
+}
+
+// What a call does to each entry of a list; marking and discarding go by a list of ids.
+pub enum EntryChange {
+    Age,
+    Mark,
+    Discard,
+}
+
+impl Age {
+    pub const LAST: u8 = 255;
+
+    pub const DUE: u8 = 64;
+}
+
+impl Entry {
+    fn new(id: WriteId) -> Self
+        ensures { λ r. ⌜ r ≡ newEntry id ⌝ }
+    {
+        Entry {
+            id: id,
+            mark: Mark::Recent,
+            age: Age(0),
+        }
+    }
+
+    pub fn is_recent(self) -> bool
+        ensures { λ r. ⌜ r ≡ isRecent self ⌝ }
+    {
+        let mark = self.mark;
+        match mark {
+            Mark::Recent => true,
+            Mark::Old => false,
+        }
+    }
+
+    fn passes(self, test: EntryTest) -> bool
+        ensures { λ r. ⌜ r ≡ passes test self ⌝ }
+    {
+        let own = self.id;
+        match test {
+            EntryTest::Of(id) => own.same(id),
+            EntryTest::RecentOf(id) => self.is_recent() && own.same(id),
+            EntryTest::OldOf(id) => !self.is_recent() && own.same(id),
+            EntryTest::Due => self.is_recent() && Age::DUE <= self.age.0,
+            EntryTest::Outside(z) => !own.is_within(z),
+        }
+    }
+
+    fn older(self) -> Self
+        ensures { λ r. ⌜ r ≡ olderEntry self ⌝ }
+    {
+        let id = self.id;
+        let mark = self.mark;
+        let age = self.age.0;
+        let next = if age < Age::LAST { age + 1 } else { age };
+        Entry {
+            id: id,
+            mark: mark,
+            age: Age(next),
+        }
+    }
+
+    fn marked(self, ids: Ids) -> Self
+        requires { ⌜ ids .count ≤ 8 ⌝ }
+        ensures { λ r. ⌜ r ≡ markedEntry (idsOf ids) self ⌝ }
+    {
+        let id = self.id;
+        let age = self.age;
+        if ids.has(id) {
+            let mark = Mark::Old;
+            return Entry {
+                id: id,
+                mark: mark,
+                age: age,
+            };
+        }
+        self
+    }
+
+    fn is_kept(self, ids: Ids) -> bool
+        requires { ⌜ ids .count ≤ 8 ⌝ }
+        ensures { λ r. ⌜ r ≡ isKept (idsOf ids) self ⌝ }
+    {
+        let id = self.id;
+        self.is_recent() || !ids.has(id)
+    }
+
+    // The last recent id, where it was p before this entry.
+    fn last_recent(self, p: Previous) -> Previous
+        ensures { λ r. ⌜ r ≡ lastRecentOf self p ⌝ }
+    {
+        let id = self.id;
+        if self.is_recent() {
+            Previous::Id(id)
+        } else {
+            p
+        }
+    }
+}
+
+impl Entries {
+    pub fn none() -> Self
+        ensures { λ r. ⌜ entriesOf r ≡ [] ⌝ }
+    {
+        let e = Entry::new(WriteId::blank());
+        let items = [e; Entries::LIMIT];
+        Entries {
+            items: items,
+            count: 0,
+        }
+    }
+
+    fn push(self, e: Entry) -> Self
+        requires { ⌜ self .count < 16 ⌝ }
+        ensures { λ r. ⌜ entriesOf r ≡ entriesOf self ++ (e ∷ []) ⌝ }
+    {
+        let mut items = self.items;
+        let n = self.count;
+        items[n] = e;
+        Entries {
+            items: items,
+            count: n + 1,
+        }
+    }
+
+    // Whether some entry passes the test.
+    fn any(self, test: EntryTest) -> bool
+        requires { ⌜ self .count ≤ 16 ⌝ }
+        ensures { λ r. ⌜ r ≡ somePasses test (entriesOf self) ⌝ }
+    {
+        let n = self.count;
+        let items = self.items;
+        let mut i = 0;
+        while i < n {
+            let e = items[i];
+            if e.passes(test) {
+                return true;
+            }
+            i += 1;
+        }
+        false
+    }
+
+    pub fn has(self, id: WriteId) -> bool
+        requires { ⌜ self .count ≤ 16 ⌝ }
+        ensures { λ r. ⌜ r ≡ isListed id (entriesOf self) ⌝ }
+    {
+        self.any(EntryTest::Of(id))
+    }
+
+    pub fn has_recent(self, id: WriteId) -> bool
+        requires { ⌜ self .count ≤ 16 ⌝ }
+        ensures { λ r. ⌜ r ≡ isRecentIn id (entriesOf self) ⌝ }
+    {
+        self.any(EntryTest::RecentOf(id))
+    }
+
+    pub fn has_recent_previous(self, p: Previous) -> bool
+        requires { ⌜ self .count ≤ 16 ⌝ }
+        ensures { λ r. ⌜ r ≡ previousRecent p (entriesOf self) ⌝ }
+    {
+        match p {
+            Previous::Nothing => false,
+            Previous::Id(id) => self.has_recent(id),
+        }
+    }
+
+    pub fn has_old(self, id: WriteId) -> bool
+        requires { ⌜ self .count ≤ 16 ⌝ }
+        ensures { λ r. ⌜ r ≡ isOldIn id (entriesOf self) ⌝ }
+    {
+        self.any(EntryTest::OldOf(id))
+    }
+
+    pub fn has_due(self) -> bool
+        requires { ⌜ self .count ≤ 16 ⌝ }
+        ensures { λ r. ⌜ r ≡ someDue (entriesOf self) ⌝ }
+    {
+        self.any(EntryTest::Due)
+    }
+
+    pub fn is_within(self, z: Sizes) -> bool
+        ensures { λ r. ⌜ r ≡ (leb (length (entriesOf self)) entryLimit && entriesWithin z (entriesOf self)) ⌝ }
+    {
+        self.count <= Entries::LIMIT && !self.any(EntryTest::Outside(z))
+    }
+
+    pub fn last_recent(self) -> Previous
+        requires { ⌜ self .count ≤ 16 ⌝ }
+        ensures { λ r. ⌜ r ≡ lastRecent (entriesOf self) ⌝ }
+    {
+        let n = self.count;
+        let items = self.items;
+        let mut p = Previous::Nothing;
+        let mut i = 0;
+        while i < n {
+            let e = items[i];
+            p = e.last_recent(p);
+            i += 1;
+        }
+        p
+    }
+
+    // The list with what the change leaves of one entry more.
+    fn offered(self, e: Entry, change: EntryChange, ids: Ids) -> Self
+        requires { ⌜ (self .count < 16) × (ids .count ≤ 8) ⌝ }
+        ensures { λ r. ⌜ entriesOf r ≡ entriesOf self ++ offered change (idsOf ids) e ⌝ }
+    {
+        match change {
+            EntryChange::Age => self.push(e.older()),
+            EntryChange::Mark => self.push(e.marked(ids)),
+            EntryChange::Discard => { if e.is_kept(ids) { self.push(e) } else { self } }
+        }
+    }
+
+    fn changed(self, change: EntryChange, ids: Ids) -> Self
+        requires { ⌜ (self .count ≤ 16) × (ids .count ≤ 8) ⌝ }
+        ensures { λ r. ⌜ entriesOf r ≡ changed change (idsOf ids) (entriesOf self) ⌝ }
+    {
+        let n = self.count;
+        let items = self.items;
+        let mut out = Entries::none();
+        let mut i = 0;
+        while i < n {
+            let e = items[i];
+            out = out.offered(e, change, ids);
+            i += 1;
+        }
+        out
+    }
+
+    // Every entry older, and the id entered as recent.
+    pub fn enter(self, id: WriteId) -> Self
+        requires { ⌜ self .count < 16 ⌝ }
+        ensures { λ r. ⌜ entriesOf r ≡ enter id (entriesOf self) ⌝ }
+    {
+        let older = self.changed(EntryChange::Age, Ids::none());
+        older.push(Entry::new(id))
+    }
+
+    pub fn mark_old(self, ids: Ids) -> Self
+        requires { ⌜ (self .count ≤ 16) × (ids .count ≤ 8) ⌝ }
+        ensures { λ r. ⌜ entriesOf r ≡ markOld (idsOf ids) (entriesOf self) ⌝ }
+    {
+        self.changed(EntryChange::Mark, ids)
+    }
+
+    pub fn discard(self, ids: Ids) -> Self
+        requires { ⌜ (self .count ≤ 16) × (ids .count ≤ 8) ⌝ }
+        ensures { λ r. ⌜ entriesOf r ≡ discard (idsOf ids) (entriesOf self) ⌝ }
+    {
+        self.changed(EntryChange::Discard, ids)
+    }
+}
