@@ -1,15 +1,20 @@
 -- Encoding makes codewords and decoding gives back what was encoded: specs/Demand2.antt, proved. Assumes nothing.
-use mathlib.Core.List.{List, _++_}
-use mathlib.Core.Path.{_≡_, sym, ap, _∙_, subst}
+use mathlib.Core.Bool.{Bool, true, false, _&&_, _||_, not}
+use mathlib.Core.List.{List, [], _∷_, _++_}
+use mathlib.Core.Path.{_≡_, refl, sym, ap, _∙_, subst}
 use Prim.Native.Nat.{ℕ, _+_, _-_, _*_, _≤_, _<_}
 use native.Mathlib.Omega.{arith}
 use lib.ListN.{length, getD}
-use Rattle.blocks.specs.Blocks.{byteAt, table, Bytes}
+use lib.Dec.{leb, ltb, eqb}
+use borrow.Author.Tests.{ltb-false, leb-true, eqb-true, not-false, eq-eqb, le-ltb}
+use Rattle.blocks.specs.Blocks.{block, byteAt, table, Bytes}
 use Rattle.blocks.proofs.Tables.{byteAt-table, table-cong, table-self, table-append, getD-block}
-use Rattle.code.specs.Code.{symbol, codeword, redundant, Codeword}
-use Rattle.code.specs.Decode.{NodeSet, size, lowest, recovered, recoveredTable}
-use Rattle.code.specs.Demand2.{EncodingMakesCodewords, Holds, DecodingGivesBack}
-use Rattle.code.proofs.NodeSets.{lowest-from, lowest-has, lowest-chosen}
+use Rattle.gf256.proofs.Computed.{never-both, and-left, and-right}
+use Rattle.code.specs.Code.{codeSizes, symbol, codeword, redundant, Codeword}
+use Rattle.code.specs.Calls.{numberOf, encoding, decoding, isIn, someOutside, given}
+use Rattle.code.specs.Decode.{NodeSet, size, invertible, lowest, recovered, recoveredTable}
+use Rattle.code.specs.Demand2.{EncodingMakesCodewords, Holds, DecodingGivesBack, CallsGiveBack, NeverNoInverse}
+use Rattle.code.proofs.NodeSets.{setOf-has, length-setOf, lowest-from, lowest-has, lowest-chosen, lowest-invertible}
 use Rattle.code.proofs.Recover.{Chosen, recover-symbol}
 use Rattle.code.proofs.Sizes.{Sizes, sizes-of}
 use Rattle.code.proofs.Symbols.{symbol-data, symbol-ext}
@@ -77,3 +82,70 @@ decoding-gives-back k n b set t d sizes l bytes h =
       decodes = recovered-blocks k n b set t d z bytes h k (omega arith) ∙ data-blocks k b d l;
       rebuilds = recovered-blocks k n b set t d z bytes h n (omega arith);
     }
+
+-- ---- the two calls
+
+or-false : (a b : Bool) → (a || b) ≡ false → (a ≡ false) × (b ≡ false)
+or-false true b e = (e, cc)
+or-false false b e = (refl, e)
+
+-- where no node given is outside, those given are at most n
+is-in-most : (n : ℕ) (xs : List ℕ) (j : ℕ) → someOutside n xs ≡ false → isIn xs j ≡ true → j ≤ n
+unfolding someOutside isIn
+is-in-most n [] j e i = absurd (never-both false i refl)
+is-in-most n (x ∷ xs) j e i =
+    let (here, rest) = or-false (not (leb 1 x && leb x n)) (someOutside n xs) e in
+    by (eqb x j) refl i (leb-true x n (and-right (leb 1 x) (leb x n) (not-false (leb 1 x && leb x n) here))) (is-in-most n xs j rest)
+  where
+    by : (t : Bool) → eqb x j ≡ t → (t || isIn xs j) ≡ true → x ≤ n → (isIn xs j ≡ true → j ≤ n) → j ≤ n
+    by true q i here rest = omega (arith, eqb-true x j q)
+    by false q i here rest = rest i
+
+pub given-invertible : (k : ℕ) (nodes : List ℕ) → k ≤ 256 → k ≤ size (given nodes) → invertible k (lowest (given nodes)) ≡ true
+given-invertible k nodes = lowest-invertible k (given nodes) (omega (arith, length-setOf (isIn nodes)))
+
+pub calls-give-back : CallsGiveBack
+calls-give-back k n b d room t nodes out sizes bytes ld lr lt lo inside enough same =
+    let z : Sizes k n b = sizes-of k n b sizes in
+    let set : NodeSet = given nodes in
+    let encoded : encoding k n b d room .out ≡ redundant k n b d = rw (sizes, eq-eqb (length d) (k * b) ld, eq-eqb (length room) ((n - k) * b) lr) in
+    let holds : Holds k n b set t d =
+    record {
+      enough = enough;
+      nodes = λ j e. is-in-most n nodes j inside (setOf-has (isIn nodes) j e);
+      blocks = λ q q1 qk.
+          same (lowest set q) (setOf-has (isIn nodes) (lowest set q) (lowest-has set q q1 (omega arith)))
+          ∙ ap (λ w. block b (lowest set q) w) (ap (λ r. d ++ r) encoded ∙ encoded-whole k n b d (omega arith) ld);
+    } in
+    rw (
+      sizes,
+      eq-eqb (length t) (n * b) lt,
+      eq-eqb (length out) (k * b) lo,
+      inside,
+      le-ltb (size set) k enough,
+      given-invertible k nodes (omega arith) enough,
+      decoding-gives-back k n b set t d sizes ld bytes holds .decodes,
+    )
+
+pub never-no-inverse : NeverNoInverse
+never-no-inverse k n b nodes t out e = limits fit refl
+  where
+    fit : Bool
+    fit = codeSizes k n b && (eqb (length t) (n * b) && eqb (length out) (k * b))
+
+    number : numberOf (decoding k n b nodes t out .answer) ≡ 12
+    number = ap numberOf e
+
+    few : (r : Bool) → ltb (size (given nodes)) k ≡ r → fit ≡ true → someOutside n nodes ≡ false → ⊥
+    few true f q o = omega (arith, rw (q, o, f) at number)
+    few false f q o =
+        let z : Sizes k n b = sizes-of k n b (and-left (codeSizes k n b) (eqb (length t) (n * b) && eqb (length out) (k * b)) q) in
+        omega (arith, rw (q, o, f, given-invertible k nodes (omega arith) (ltb-false (size (given nodes)) k f)) at number)
+
+    outside : (r : Bool) → someOutside n nodes ≡ r → fit ≡ true → ⊥
+    outside true o q = omega (arith, rw (q, o) at number)
+    outside false o q = few (ltb (size (given nodes)) k) refl q o
+
+    limits : (r : Bool) → fit ≡ r → ⊥
+    limits true q = outside (someOutside n nodes) refl q
+    limits false q = omega (arith, rw q at number)

@@ -7,6 +7,7 @@ use native.Mathlib.Decide.{ℕ-discrete, decLe}
 use native.Mathlib.Omega.{arith}
 use lib.Dec.{eqb}
 use borrow.Author.Tests.{eq-eqb, ne-eqb, le-leb, lt-leb}
+use Rattle.gf256.proofs.Computed.{never-both}
 use Rattle.gf256.proofs.Laws.{product-comm, product-zero, one-product, inverse-byte}
 use Rattle.code.specs.Code.{coefficient, row, symbol}
 use Rattle.code.specs.Decode.{recovered, each, invertible}
@@ -89,7 +90,7 @@ pub invertible-decides : (k : ℕ) (s : ℕ → ℕ) → k ≤ 256 → Chosen k 
 invertible-decides k s lk c =
     record {
       right = λ e. chosen-invertible k s lk c;
-      wrong = λ e. let z : _≡_ {A = ℕ} 0 1 = cc (invertible-chosen k s lk c) in absurd (omega arith);
+      wrong = λ e inverse. never-both (invertible k s) (invertible-chosen k s lk c) e;
     }
 
 -- and a node given twice has no inverse

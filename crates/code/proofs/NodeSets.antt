@@ -7,9 +7,11 @@ use Prim.Native.Nat.{ℕ, zero, suc, _+_, _-_, _≤_, _<_}
 use native.Mathlib.Decide.{decLt}
 use native.Mathlib.Omega.{arith}
 use lib.ListN.{length, getD, List·getD-eq-default}
+use Rattle.gf256.proofs.Computed.{never-both}
 use Rattle.blocks.proofs.Tables.{length-listOf, getD-listOf}
-use Rattle.code.specs.Decode.{NodeSet, has, setOf, membersFrom, size, lowest}
+use Rattle.code.specs.Decode.{NodeSet, has, setOf, membersFrom, size, lowest, invertible}
 use Rattle.code.proofs.Sum.{All}
+use Rattle.code.proofs.Invertible.{invertible-chosen}
 use Rattle.code.proofs.Recover.{Chosen}
 
 -- ---- a set from a test
@@ -32,12 +34,17 @@ pub has-within : (s : NodeSet) (j : ℕ) → has s j ≡ true → j ≤ length s
 has-within s j e = by (decLt (length s) j)
   where
     by : Dec (length s < j) → j ≤ length s
-    by (yes l) = let z : _≡_ {A = ℕ} 0 1 = cc (has-past s j l) in absurd (omega arith)
+    by (yes l) = absurd (never-both (has s j) e (has-past s j l))
     by (no n) = omega arith
 
 pub length-setOf : (p : ℕ → Bool) → length (setOf p) ≡ 18
 unfolding setOf
 length-setOf p = length-listOf 18 (λ i. p (suc i))
+
+pub setOf-has : (p : ℕ → Bool) (j : ℕ) → has (setOf p) j ≡ true → p j ≡ true
+setOf-has p zero e = absurd (never-both (has (setOf p) 0) e (has-zero (setOf p)))
+setOf-has p (suc j) e =
+    sym (has-setOf p (suc j) (omega arith) (omega (arith, has-within (setOf p) (suc j) e, length-setOf p))) ∙ e
 
 pub has-setOf-past : (p : ℕ → Bool) (j : ℕ) → 18 < j → has (setOf p) j ≡ false
 has-setOf-past p j l = has-past (setOf p) j (rw (length-setOf p) l)
@@ -100,6 +107,10 @@ lowest-chosen k s within ks =
     differ : (p q : ℕ) → 1 ≤ p → p ≤ k → 1 ≤ q → q ≤ k → p ≢ q → Dec (p < q) → lowest s p ≢ lowest s q
     differ p q p1 pk q1 qk h (yes l) = omega (arith, lowest-rises s p q p1 l (omega arith))
     differ p q p1 pk q1 qk h (no n) = omega (arith, lowest-rises s q p q1 (omega arith) (omega arith))
+
+-- so decoding from k members or more never meets rows with no inverse
+pub lowest-invertible : (k : ℕ) (s : NodeSet) → length s ≤ 256 → k ≤ 256 → k ≤ size s → invertible k (lowest s) ≡ true
+lowest-invertible k s ls lk ks = invertible-chosen k (lowest s) lk (lowest-chosen k s (λ j e. omega (arith, has-within s j e)) ks)
 
 -- ---- the size is the number of members
 

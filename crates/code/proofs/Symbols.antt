@@ -1,6 +1,6 @@
 -- What a node holds of one byte of each data block: the laws of `symbol`. Assumes nothing.
 use mathlib.Core.Logic.{_≢_}
-use mathlib.Core.Path.{_≡_, _∙_}
+use mathlib.Core.Path.{_≡_, sym, _∙_}
 use Prim.Native.Nat.{ℕ, _%_, _≤_, _<_}
 use native.Mathlib.Decide.{decLe}
 use native.Mathlib.Omega.{arith}
@@ -49,22 +49,27 @@ module _ (k j : ℕ) where
       rw (symbol-redundant x lj, symbol-redundant y lj, product-add (coefficient j i) (y i) (x i), ← sum-one k (λ l. of-y l ⊕ of-x l) i i1 ik rest, sum-add k of-y of-x)
       (simp ring)
 
-  terms-byte : (x : ℕ → ℕ) → sum k (λ i. coefficient j i ⊗ x i) < 256
-  terms-byte x = sum-byte k (λ i. coefficient j i ⊗ x i) (λ i i1 ik. product-byte (coefficient j i) (x i))
+  -- ---- bytes: a redundant node takes the low bytes and holds a byte
+
+  pub redundant-byte : (x : ℕ → ℕ) → k < j → symbol k j x < 256
+  redundant-byte x l =
+      rw (symbol-redundant x l) (sum-byte k (λ i. coefficient j i ⊗ x i) (λ i i1 ik. product-byte (coefficient j i) (x i)))
+
+  pub redundant-low : (x : ℕ → ℕ) → k < j → symbol k j (λ i. x i % 256) ≡ symbol k j x
+  redundant-low x l =
+      rw (symbol-redundant (λ i. x i % 256) l, symbol-redundant x l)
+      (sum-ext k (λ i. coefficient j i ⊗ (x i % 256)) (λ i. coefficient j i ⊗ x i) (λ i i1 ik. product-low (coefficient j i) (x i)))
 
   pub symbol-byte : (x : ℕ → ℕ) → 1 ≤ j → All k (λ i. x i < 256) → symbol k j x < 256
   symbol-byte x j1 b = by (decLe j k)
     where
       by : Dec (j ≤ k) → symbol k j x < 256
       by (yes l) = rw (symbol-data x l) (b j j1 l)
-      by (no n) = rw (symbol-redundant x (omega arith)) (terms-byte x)
+      by (no n) = redundant-byte x (omega arith)
 
-  -- the low bytes give the low byte
   pub symbol-low : (x : ℕ → ℕ) → symbol k j (λ i. x i % 256) ≡ symbol k j x % 256
   symbol-low x = by (decLe j k)
     where
       by : Dec (j ≤ k) → symbol k j (λ i. x i % 256) ≡ symbol k j x % 256
       by (yes l) = rw (symbol-data (λ i. x i % 256) l, symbol-data x l)
-      by (no n) =
-          rw (symbol-redundant (λ i. x i % 256) (omega arith), symbol-redundant x (omega arith), byte-low (sum k (λ i. coefficient j i ⊗ x i)) (terms-byte x))
-          (sum-ext k (λ i. coefficient j i ⊗ (x i % 256)) (λ i. coefficient j i ⊗ x i) (λ i i1 ik. product-low (coefficient j i) (x i)))
+      by (no n) = redundant-low x (omega arith) ∙ sym (byte-low (symbol k j x) (redundant-byte x (omega arith)))

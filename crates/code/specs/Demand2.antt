@@ -1,12 +1,15 @@
--- Document 01, "Field and code", as statements on the definitions of Code.antt and Decode.antt: encoding makes a codeword, and decoding gives
--- back what was encoded, whichever k nodes are read. proofs/Demand2.antt proves both. Assumes nothing.
-use mathlib.Core.Bool.{true}
+-- Document 01, "Field and code", as statements on the definitions of Code.antt, Decode.antt and Calls.antt: encoding makes a codeword, and
+-- decoding gives back what was encoded, whichever k nodes are read. proofs/Demand2.antt proves them. Assumes nothing.
+use mathlib.Core.Bool.{true, false}
 use mathlib.Core.List.{List, _++_}
+use mathlib.Core.Logic.{_≢_}
 use mathlib.Core.Path.{_≡_}
-use Prim.Native.Nat.{ℕ, _*_, _≤_}
+use Prim.Native.Nat.{ℕ, _-_, _*_, _≤_}
 use lib.ListN.{length}
 use Rattle.blocks.specs.Blocks.{block, Bytes}
 use Rattle.code.specs.Code.{codeSizes, codeword, redundant, Codeword}
+use Rattle.code.specs.Calls.{encoding, decoding, isIn, someOutside, given}
+use Rattle.code.specs.declared.CodeAnswer.the-variants.{Accepted, NoInverse}
 use Rattle.code.specs.Decode.{NodeSet, has, size, lowest, recoveredTable}
 
 -- the data and then their redundant blocks are the codeword of the data, and a codeword
@@ -32,3 +35,16 @@ abbrev pub DecodingGivesBack : Type 0
 DecodingGivesBack =
     (k n b : ℕ) (set : NodeSet) (t d : List ℕ) → codeSizes k n b ≡ true → length d ≡ k * b → Bytes d → Holds k n b set t d
     → Decoded k n b set t d
+
+-- the two calls: data that were encoded, read at nodes of which k or more differ, are accepted and come back
+abbrev pub CallsGiveBack : Type 0
+CallsGiveBack =
+    (k n b : ℕ) (d room t nodes out : List ℕ) → codeSizes k n b ≡ true → Bytes d
+    → length d ≡ k * b → length room ≡ (n - k) * b → length t ≡ n * b → length out ≡ k * b
+    → someOutside n nodes ≡ false → k ≤ size (given nodes)
+    → ((j : ℕ) → isIn nodes j ≡ true → block b j t ≡ block b j (d ++ encoding k n b d room .out))
+    → decoding k n b nodes t out ≡ record { answer = Accepted; out = d }
+
+-- answer 12 is never given: k distinct nodes always have an inverse
+abbrev pub NeverNoInverse : Type 0
+NeverNoInverse = (k n b : ℕ) (nodes t out : List ℕ) → decoding k n b nodes t out .answer ≢ NoInverse

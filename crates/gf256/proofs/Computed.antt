@@ -1,4 +1,4 @@
--- A test of every number below n, which antt computes once, gives what it tests of each number. Assumes nothing.
+-- A test of every number below n, which antt computes once, gives what it tests of each number; with what is used of tests. Assumes nothing.
 use mathlib.Core.Bool.{Bool, true, false, _&&_}
 use mathlib.Core.Logic.{_⊎_, inl, inr}
 use mathlib.Core.Path.{_≡_, refl}
@@ -12,6 +12,9 @@ use borrow.Author.Tests.{eqb-true}
 unfoldable pub every : ℕ → (ℕ → Bool) → Bool
 every zero p = true
 every (suc n) p = p n && every n p
+
+pub never-both : (a : Bool) → a ≡ true → a ≡ false → ⊥
+never-both a t f = let z : _≡_ {A = ℕ} 0 1 = cc in omega arith
 
 pub and-left : (a b : Bool) → (a && b) ≡ true → a ≡ true
 and-left true b e = refl

@@ -3,6 +3,7 @@ use mathlib.Core.Path.{_≡_, refl, sym, ap, subst, _∙_}
 use mathlib.Core.Logic.{_≢_, _⊎_, inl, inr}
 use mathlib.Core.Bool.{Bool, true, false, cond, _&&_, _||_, not}
 use mathlib.Core.List.{List, [], _∷_}
+use mathlib.Core.Option.{none, some}
 use Prim.Native.Nat.{ℕ, zero, suc, _+_, _≤_, _<_}
 use native.Mathlib.Omega.{arith}
 use lib.Dec.{eqb, leb, ltb}
@@ -13,11 +14,23 @@ pub bool-cases : (b : Bool) → (b ≡ true) ⊎ (b ≡ false)
 bool-cases true = inl refl
 bool-cases false = inr refl
 
+-- a test that cannot fail is passed, and one that cannot be passed fails
+pub is-true : (b : Bool) → (b ≡ false → b ≡ true) → b ≡ true
+is-true true f = refl
+is-true false f = f refl
+
+pub is-false : (b : Bool) → (b ≡ true → b ≡ false) → b ≡ false
+is-false true f = f refl
+is-false false f = refl
+
 pub clash : {A : Type 0} {b : Bool} → b ≡ true → b ≡ false → A
-clash p q = let z : _≡_ {A = ℕ} 0 1 = cc in absurd (not-0-1 z)
-  where
-    not-0-1 : _≡_ {A = ℕ} 0 1 → ⊥
-    not-0-1 isSettled = omega arith
+clash p q = let z : _≡_ {A = ℕ} 0 1 = cc in absurd (omega arith)
+
+pub some-same : {A : Type 0} {a b : A} → some a ≡ some b → a ≡ b
+some-same e = cc
+
+pub not-some : {A C : Type 0} {a : A} → none ≡ some a → C
+not-some e = let z : _≡_ {A = ℕ} 0 1 = cc in absurd (omega arith)
 
 pub and-both : (a b : Bool) → (a && b) ≡ true → (a ≡ true) × (b ≡ true)
 and-both true b e = (refl, e)
@@ -53,6 +66,14 @@ same-or a b = go (eqb a b) refl
     go true e = inl (eqb-true a b e)
     go false e = inr (eqb-false a b e)
 
+-- what holds of i and of all others holds of all
+pub each-place : (P : ℕ → Type 0) (i : ℕ) → P i → ((j : ℕ) → i ≢ j → P j) → (j : ℕ) → P j
+each-place P i p q j = go (same-or i j)
+  where
+    go : (i ≡ j) ⊎ (i ≢ j) → P j
+    go (inl e) = subst P e p
+    go (inr d) = q j d
+
 module _ {A : Type 0} where
   unfoldable pub upd : (ℕ → A) → ℕ → A → ℕ → A
   upd f i a j = cond (eqb i j) a (f j)
@@ -71,11 +92,7 @@ module _ {A : Type 0} where
 
   -- one place changed: what holds of the new value there and of the old ones elsewhere holds everywhere
   pub upd-ind : (P : ℕ → A → Type 0) (f : ℕ → A) (i : ℕ) (a : A) → P i a → ((j : ℕ) → i ≢ j → P j (f j)) → (j : ℕ) → P j (upd f i a j)
-  upd-ind P f i a p q j = go (same-or i j)
-    where
-      go : (i ≡ j) ⊎ (i ≢ j) → P j (upd f i a j)
-      go (inl e) = subst (λ (x : ℕ). P x (upd f i a x)) e (subst (λ (y : A). P i y) (sym (upd-same f i a)) p)
-      go (inr h) = subst (λ (y : A). P j y) (sym (upd-other f i a j h)) (q j h)
+  upd-ind P f i a p q = each-place (λ j. P j (upd f i a j)) i (subst (P i) (sym (upd-same f i a)) p) (λ j d. subst (P j) (sym (upd-other f i a j d)) (q j d))
 
   pub cond-ind : (P : A → Type 0) (b : Bool) (x y : A) → (b ≡ true → P x) → (b ≡ false → P y) → P (cond b x y)
   cond-ind P true x y p q = p refl

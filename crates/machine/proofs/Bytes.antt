@@ -12,7 +12,7 @@ use lib.Dec.{leb, ltb}
 use lib.ListN.{getD}
 use Rattle.gf256.specs.Field.{product}
 use Rattle.blocks.specs.Blocks.{part}
-use Rattle.code.specs.Code.{symbol, coefficient}
+use Rattle.code.specs.Code.{sum, coefficient}
 use Rattle.code.specs.Decode.{lowest, recovered}
 use Rattle.records.specs.declared.Sizes.{Sizes}
 use Rattle.machine.proofs.Columns.{Ops}
@@ -55,6 +55,6 @@ ops z =
       zeroes = zeroBlock;
       diff = λ v o p. byteOf (bitXor (v p .val) (o p .val));
       mulAdd = λ j i x d p. byteOf (bitXor (x p .val) (product (coefficient j i) (d p .val)));
-      parity = λ j x p. byteOf (symbol (z .k) j (λ i. x i p .val));
+      parity = λ j x p. byteOf (sum (z .k) (λ i. product (coefficient j i) (x i p .val)));
       decode = λ w x j. cond (leb 1 j && leb j (z .n)) (λ p. byteOf (recovered (z .k) (lowest w) (λ q. x (lowest w q) p .val) j)) zeroBlock;
     }

@@ -5,6 +5,7 @@ use mathlib.Core.Bool.{Bool, true, false, cond, _&&_, _||_, not}
 use mathlib.Core.Option.{Option, none, some}
 use mathlib.Core.List.{List, [], _∷_}
 use Prim.Native.Nat.{ℕ, zero, suc, _+_, _≤_, _<_}
+use native.Mathlib.Nat.{le-trans}
 use native.Mathlib.Omega.{arith}
 use lib.Dec.{eqb, leb, ltb}
 use borrow.Author.Tests.{leb-true, leb-false, le-leb, lt-leb}
@@ -17,7 +18,7 @@ use Rattle.records.specs.declared.Previous.the-variants.{Id}
 use Rattle.records.specs.Entries.{isListed, isRecentIn, isOldIn, isIn, lastRecent}
 use Rattle.records.specs.Node.{isInit, isNorm, isRecons}
 use Rattle.records.specs.Client.{Write, Rebuild, NoRebuild, Locking, Picking, Writing, Settling, Unlocking}
-use Rattle.machine.proofs.Base.{upd, upd-same, upd-other, upd-ind, same-or, clash, bool-cases}
+use Rattle.machine.proofs.Base.{upd, upd-same, upd-other, upd-ind, same-or, clash, is-false, bool-cases}
 use Rattle.machine.proofs.Columns.{Ops, Lock, Unl, Exp, L0, L1, isUnl, isL0, heldBy, Columns}
 use Rattle.machine.proofs.Ledger.{Ledger, Swapped, IsPos, upd2}
 use Rattle.machine.proofs.Invariant.{Ghost, Laws, code, IsNode, Spot, at, Between, IdsOk, Live, Unwritten, OnCut, Settled, Among, ListOk, NodeOk, PairOk, Own, HandOk, FinishedOk, writes, LockingOk, WritingOk, SettlingOk, UnlockingOk, PhaseOk, WriterOk, SettlerOk, RebuildOk, Inv, Good}
@@ -103,6 +104,35 @@ module _ (O : Ops) where
       go false e =
           code-red j x (leb-false j k e) ∙ L .parity-ext j x y (λ i p. f i (record { pos = p; sees = inr (leb-false j k e) })) ∙ sym (code-red j y (leb-false j k e))
 
+  -- node j's list, itself left alone
+  pub list-frame : (G G' : Ghost) (h h' : Ledger B) (j : ℕ) (es : List Entry) → ((i : ℕ) → G' .inList j i ≡ G .inList j i) →
+      ((i l : ℕ) → l ≤ h .len i → G' .idOf i l ≡ G .idOf i l) → ((i : ℕ) → h .len i ≤ h' .len i) → ((i l : ℕ) → h .done i l ≡ true → h' .done i l ≡ true) →
+      ((i l : ℕ) → 1 ≤ l → l ≤ h' .len i → (l ≤ h .len i) ⊎ (isOldIn (G' .idOf i l) es ≡ false)) → ListOk O G h j es → ListOk O G' h' j es
+  list-frame G G' h h' j es inList idOf len done new v =
+      record {
+        short = λ i. let a = v .short i in let c = len i in let d = inList i in omega arith;
+        listed = λ x p. among x (v .listed x p);
+        mine = v .mine;
+        undone = λ i l p a c d. subst (λ x. isRecentIn x es ≡ true) (sym (idOf i l (shorter i l c))) (v .undone i l p a (subst (λ t. l ≤ t) (inList i) c) (is-false (h .done i l) (λ t. clash (done i l t) d)));
+        old = λ i l a c d. old i l a d (new i l a c);
+      }
+    where
+      shorter : (i l : ℕ) → l ≤ G' .inList j i → l ≤ h .len i
+      shorter i l c = let a = v .short i in let d = inList i in omega arith
+
+      among : (x : WriteId) → Among O G (G .inList j (x .position)) x → Among O G' (G' .inList j (x .position)) x
+      among x a =
+          record {
+            l = a .l;
+            low = a .low;
+            high = subst (λ t. a .l ≤ t) (sym (inList (x .position))) (a .high);
+            is = idOf (x .position) (a .l) (le-trans (a .high) (v .short (x .position))) ∙ a .is;
+          }
+
+      old : (i l : ℕ) → 1 ≤ l → isOldIn (G' .idOf i l) es ≡ true → (l ≤ h .len i) ⊎ (isOldIn (G' .idOf i l) es ≡ false) → h' .done i l ≡ true
+      old i l a d (inl t) = done i l (v .old i l a t (subst (λ x. isOldIn x es ≡ true) (idOf i l t) d))
+      old i l a d (inr t) = clash d t
+
   ---- from G, h to G', h': what node j's part of the invariant needs, its own block and list left alone
   pub record Grown (G G' : Ghost) (h h' : Ledger B) (j : ℕ) (o : Opmode) (es : List Entry) : Type 0 where
     pub base : G' .base ≡ G .base
@@ -128,7 +158,7 @@ module _ (O : Ops) where
         unwritten = λ p q. unwritten (N .unwritten p (sym (W .isSettled) ∙ q));
         written = λ p. on (inl p) (N .written p);
         settled = λ p. settled (sym (W .isSettled) ∙ p) (N .settled (sym (W .isSettled) ∙ p));
-        list = list (N .list);
+        list = list-frame G G' h h' j es (W .inList) (W .idOf) (W .len) (W .done) (W .new) (N .list);
         init = λ p a c. W .failed (N .init p a c);
         bare = λ p i. W .inList i ∙ N .bare (bare p) i;
       }
@@ -159,39 +189,6 @@ module _ (O : Ops) where
 
       settled : G .isSettled j ≡ true → Settled O G h j o e → Settled O G' h' j o e
       settled r v = record { norm = v .norm; on = on (inr r) (v .on); later = subst (λ t. t < e) (sym (W .base)) (v .later) }
-
-      list : ListOk O G h j es → ListOk O G' h' j es
-      list v =
-          record {
-            short = λ i. short i;
-            listed = λ x p. among x (v .listed x p);
-            mine = v .mine;
-            undone = λ i l p a c d. subst (λ x. isRecentIn x es ≡ true) (sym (W .idOf i l (shorter i l c))) (v .undone i l p a (subst (λ t. l ≤ t) (W .inList i) c) (still i l d));
-            old = λ i l a c d. old i l a c d (W .new i l a c);
-          }
-        where
-          short : (i : ℕ) → G' .inList j i ≤ h' .len i
-          short i = let a = v .short i in let c = W .len i in let d = W .inList i in omega arith
-
-          shorter : (i l : ℕ) → l ≤ G' .inList j i → l ≤ h .len i
-          shorter i l c = let a = v .short i in let d = W .inList i in omega arith
-
-          still : (i l : ℕ) → h' .done i l ≡ false → h .done i l ≡ false
-          still i l d = go (bool-cases (h .done i l))
-            where
-              go : (h .done i l ≡ true) ⊎ (h .done i l ≡ false) → h .done i l ≡ false
-              go (inl t) = clash (W .done i l t) d
-              go (inr t) = t
-
-          among : (x : WriteId) → Among O G (G .inList j (x .position)) x → Among O G' (G' .inList j (x .position)) x
-          among x a = record { l = a .l; low = a .low; high = subst (λ t. a .l ≤ t) (sym (W .inList (x .position))) (a .high); is = W .idOf (x .position) (a .l) (there (v .short (x .position)) (a .high)) ∙ a .is }
-            where
-              there : G .inList j (x .position) ≤ h .len (x .position) → a .l ≤ G .inList j (x .position) → a .l ≤ h .len (x .position)
-              there p q = omega arith
-
-          old : (i l : ℕ) → 1 ≤ l → l ≤ h' .len i → isOldIn (G' .idOf i l) es ≡ true → (l ≤ h .len i) ⊎ (isOldIn (G' .idOf i l) es ≡ false) → h' .done i l ≡ true
-          old i l a c d (inl t) = W .done i l (v .old i l a t (subst (λ x. isOldIn x es ≡ true) (W .idOf i l t) d))
-          old i l a c d (inr t) = clash d t
 
       unwritten : Unwritten O G h j e es → Unwritten O G' h' j e es
       unwritten v =
@@ -255,6 +252,22 @@ module _ (O : Ops) where
   pub of-live : {G : Ghost} {h : Ledger B} {j : ℕ} {b : B} {e : ℕ} → Live O G h j b e → IsNode O j
   of-live v = record { low = v .low; high = v .high }
 
+  -- a swap that is listed at a node is one of those counted there
+  pub counted : {G : Ghost} {h : Ledger B} {s : Columns B} → Inv O G h s → (j i l : ℕ) → 1 ≤ l → l ≤ h .len i → isListed (G .idOf i l) (s .entries j) ≡ true → Spot O j i × (l ≤ G .inList j i)
+  counted {G} {h} {s} I j i l low high e = (subst (Spot O j) position (I .node j .list .mine (G .idOf i l) e), subst (λ t. t ≤ G .inList j i) same within)
+    where
+      position : G .idOf i l .position ≡ i
+      position = I .ids .idOf-pos i l low high
+
+      a : Among O G (G .inList j (G .idOf i l .position)) (G .idOf i l)
+      a = I .node j .list .listed (G .idOf i l) e
+
+      within : a .l ≤ G .inList j i
+      within = subst (λ y. a .l ≤ G .inList j y) position (a .high)
+
+      same : a .l ≡ l
+      same = I .ids .idOf-inj i (a .l) l (a .low) (le-trans within (I .node j .list .short i)) low high (subst (λ y. G .idOf y (a .l) ≡ G .idOf i l) position (a .is))
+
   -- a client between its pick and its finish has every node that is not INIT at L1
   pub writer-holds : (G : Ghost) (c j : ℕ) (p : Rebuild) (o : Opmode) (l : Lock) (e : ℕ) → PhaseOk O G c p j o l e → writes p ≡ true → isInit o ≡ false → l ≡ L1 c
   writer-holds G c j NoRebuild o l e v w i = clash w refl
@@ -266,11 +279,9 @@ module _ (O : Ops) where
 
   -- so while some node that is not INIT is at UNL or L0 nobody is
   pub no-writer : (G : Ghost) (h : Ledger B) (s : Columns B) → Inv O G h s → (j : ℕ) → isInit (s .op j) ≡ false → (isUnl (s .lock j) || isL0 (s .lock j)) ≡ true → (c : ℕ) → writes (s .phase c) ≡ false
-  no-writer G h s I j i l c = go (bool-cases (writes (s .phase c)))
-    where
-      go : (writes (s .phase c) ≡ true) ⊎ (writes (s .phase c) ≡ false) → writes (s .phase c) ≡ false
-      go (inl w) = clash (subst (λ t. (isUnl t || isL0 t) ≡ true) (writer-holds G c j (s .phase c) (s .op j) (s .lock j) (s .epoch j) (I .phase c j (of-live (I .node j .live i))) w i) l) refl
-      go (inr w) = w
+  no-writer G h s I j i l c =
+      is-false (writes (s .phase c)) (λ w.
+      clash (subst (λ t. (isUnl t || isL0 t) ≡ true) (writer-holds G c j (s .phase c) (s .op j) (s .lock j) (s .epoch j) (I .phase c j (of-live (I .node j .live i))) w i) l) refl)
 
   -- a client that does not write: its part turns on `half` alone
   pub phase-quiet : (G G' : Ghost) → G' .begun ≡ G .begun → (c j : ℕ) (p : Rebuild) (o : Opmode) (l : Lock) (e : ℕ) → writes p ≡ false → PhaseOk O G c p j o l e → PhaseOk O G' c p j o l e

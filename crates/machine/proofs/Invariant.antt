@@ -61,6 +61,7 @@ module _ (O : Ops) where
   pub record Laws : Type 0 where
     pub k-two : 2 ≤ k
     pub k-n : k < n
+    pub n-18 : n ≤ 18
     pub parity-zero : (j : ℕ) → parity j (λ i. zeroes) ≡ zeroes
     pub parity-ext : (j : ℕ) (x y : ℕ → B) → ((i : ℕ) → IsPos O i → x i ≡ y i) → parity j x ≡ parity j y
     pub parity-upd : (j i : ℕ) (x : ℕ → B) (v : B) → k < j → j ≤ n → IsPos O i → parity j (upd x i v) ≡ mulAdd j i (parity j x) (diff v (x i))

@@ -5,7 +5,7 @@ use mathlib.Core.Bool.{Bool, true, false, cond, _&&_, _||_}
 use mathlib.Core.List.{List, [], _∷_, map}
 use Prim.Native.Nat.{ℕ, zero, suc, _≤_, _<_}
 use native.Mathlib.Omega.{arith}
-use lib.ListN.{length, getD, set}
+use lib.ListN.{length, getD, set, length-set}
 use borrow.Author.Tests.{eqb-true, ne-eqb}
 use lib.Seq.{getD-set-same, getD-set-other, set-getD}
 use Rattle.records.specs.declared.Sizes.{Sizes}
@@ -69,6 +69,11 @@ upd-keep f i = fun-ext (λ j. go j (same-or i j))
     go j (inr d) = upd-other f i (f i) j d
 
 ---- one element set
+pub setAt-length : {E : Type 0} (l : List E) (i : ℕ) (x : E) → length (setAt l i x) ≡ length l
+unfolding setAt
+setAt-length l zero x = refl
+setAt-length l (suc i) x = length-set l i x
+
 module _ {E A : Type 0} (f : E → A) (d : E) (l : List E) where
   abbrev column : ℕ → A
   column j = f (elementAt d l j)

@@ -27,7 +27,7 @@ advanced nodes r w = record { nodes = nodes; client = withRebuild r (w .client);
 abbrev pub lost : ℕ → Whole → Whole
 lost c w = advanced (map (expiredFor c) (w .nodes)) NoRebuild w
 
-abbrev pub holding : Bool → ℕ → Whole → Outcome Whole → Outcome Whole
+unfoldable pub holding : Bool → ℕ → Whole → Outcome Whole → Outcome Whole
 holding held c w rest = cond held rest (answered (Refused NotHeld) (lost c w))
 
 abbrev pub outOfLimits : Sizes → Whole → Bool

@@ -1,0 +1,237 @@
+"""Wrong machines: who notices them.
+
+Each mutant is the text of stripe.py with one edit. A mutant is noticed by a
+random list if striperun's output differs from the machine's. Those with a
+list of their own break demand 3, and guarantee.py must say so on that list.
+
+    mutants.py [--seed S] [--lists N]
+"""
+
+import argparse
+import random
+import types
+from pathlib import Path
+from typing import NamedTuple
+
+import guarantee
+import lists
+import striperun
+
+SOURCE = (Path(__file__).parent / "stripe.py").read_text()
+
+
+class Unnoticed(Exception):
+    pass
+
+
+class Mutant(NamedTuple):
+    name: str
+    old: str  # occurs once in stripe.py
+    new: str
+    breaking: str = ""  # a list that breaks demand 3, calls separated by commas
+
+
+MUTANTS = [
+    # The slips seen on the rig, and others that break demand 3.
+    Mutant(
+        "unlock at settle",
+        """        if not self.holds_all(c):
+            return self.lose(c)
+        rebuild = client.rebuild
+        node = self.nodes[rebuild.count + 1]
+""",
+        """        rebuild = client.rebuild
+        node = self.nodes[rebuild.count + 1]
+        node.set_lock(UNL)
+""",
+        "2 3 1 1 2, L 1 x3, P 1, W 1 x3, T 1, S 2 1 01, T 1 x2",
+    ),
+    Mutant(
+        "settle looks at its own node only",
+        """        if not self.holds_all(c):
+            return self.lose(c)
+        rebuild = client.rebuild
+""",
+        """        rebuild = client.rebuild
+        if not self.nodes[rebuild.count + 1].held_by(c):
+            return self.lose(c)
+""",
+        "2 3 1 1 2, L 1 x3, P 1, W 1 x3, T 1, N 1 01, T 1 x2",
+    ),
+    Mutant(
+        "adds at EXP",
+        "self.lmode in (UNL, L0)",
+        "self.lmode in (UNL, L0, EXP)",
+        "2 4 1 1 2, S 2 1 01, L 1 x4, P 1, W 1, Q 1, A 2 3, A 2 4",
+    ),
+    Mutant(
+        "gives back another's lock",
+        "            if self.nodes[j].held_by(c):\n                self.nodes[j].set_lock(lmode)",
+        "            self.nodes[j].set_lock(lmode)",
+        "2 3 1 1 2, L 1, N 1 01, L 2 x3, P 2, W 2, Q 2, L 2 x3, P 2, W 2 x3, T 2, L 1, T 2, S 1 1 01,"
+        " N 2 01, L 2 x3, P 2, W 2 x3, T 2 x3",
+    ),
+    Mutant(
+        "previous id from the old entries",
+        "        recent = self.recent_ids()\n        return",
+        "        recent = self.old_ids()\n        return",
+        "2 3 1 1 2, S 1 2 01, S 2 2 01, A 2 3, N 2 01, L 1 x3, P 1, W 1 x3, T 1 x3",
+    ),
+    Mutant(
+        "no previous-id test",
+        "if hand.previous is not None and not node.lists(hand.previous):",
+        "if False:",
+        "2 3 1 1 2, S 1 2 01, S 2 2 01, A 2 3, N 2 01, L 1 x3, P 1, W 1 x3, T 1 x3",
+    ),
+    Mutant(
+        "no epoch test",
+        "if node.epoch > hand.epoch:",
+        "if False:",
+        "2 3 1 0 2, S 1 1 01, L 2 x3, P 2, W 2 x3, T 2 x3, U 2 x3, A 1 3",
+    ),
+    Mutant(
+        "settle keeps the epoch",
+        "node.epoch = rebuild.E + 1",
+        "node.epoch = rebuild.E",
+        "2 3 1 0 2, S 1 1 01, L 2 x3, P 2, W 2 x3, T 2 x3, U 2 x3, A 1 3",
+    ),
+    Mutant(
+        "redundant members not compared",
+        "f[j] == (f[r] if self.is_redundant(j) else of_position(f[r], j))",
+        "self.is_redundant(j) or all(f[j] == of_position(f[q], j) for q in norm if self.is_redundant(q))",
+        "2 4 1 0 2, S 1 2 01, A 1 3, N 1 01, L 2 x4, P 2, W 2 x4, T 2 x4",
+    ),
+    Mutant(
+        "weaken with a RECONS node",
+        " or client.rebuild.untightened or self.with_opmode(RECONS):",
+        " or client.rebuild.untightened:",
+        "2 4 1 1 2, S 2 1 01, L 1 x4, P 1, W 1, Q 1, L 1 x4, O 1, A 2 3, A 2 4",
+    ),
+    # Demand 3 holds of these: only the comparison notices.
+    Mutant(
+        "previous id from all entries",
+        "        recent = self.recent_ids()\n        return",
+        "        recent = [e.id for e in self.entries]\n        return",
+    ),
+    Mutant("f keeps ids marked old", "set(self.nodes[j].recent_ids()) - self.old_anywhere()", "set(self.nodes[j].recent_ids())"),
+    Mutant("no slack", "return max(0, self.sizes.td - len(self.with_opmode(INIT)))", "return 0"),
+    Mutant("slack without failures", "max(0, self.sizes.td - len(self.with_opmode(INIT)))", "self.sizes.td"),
+    Mutant("sweep of one pass", "client.sweeps == 2 * n", "client.sweeps == n"),
+    Mutant("finished not moved", "client.moved, client.finished = client.finished, []", "client.finished = []"),
+    Mutant("marking forgets the age", "                e.recent = False", "                e.recent, e.age = False, 0"),
+    Mutant("write clears entries", "        node.rset = rebuild.chosen\n", "        node.rset = rebuild.chosen\n        node.entries = []\n"),
+    Mutant("write keeps the epoch", "        node.epoch = rebuild.E\n", ""),
+    Mutant("settle keeps the rset", "        node.rset = frozenset()\n", ""),
+    Mutant("settle keeps entries", "        node.entries = []\n", ""),
+    Mutant("tie taken by the redundant set", "if len(agreeing) > len(largest):", "if len(agreeing) >= len(largest):"),
+    Mutant("resumed set with INIT nodes", "(union - self.with_opmode(INIT)) | self.with_opmode(RECONS)", "union | self.with_opmode(RECONS)"),
+    Mutant("resumed set of RECONS nodes only", "(union - self.with_opmode(INIT)) | self.with_opmode(RECONS)", "self.with_opmode(RECONS)"),
+    Mutant("resumed set without RECONS nodes", "(union - self.with_opmode(INIT)) | self.with_opmode(RECONS)", "union - self.with_opmode(INIT)"),
+    Mutant("resumed set needs the slack", "return self.resumed_set(), self.sizes.k\n", "return self.resumed_set(), self.sizes.k + self.slack()\n"),
+    Mutant("E of NORM nodes only", "E = max(node.epoch for node in self.nodes.values())", "E = max([0] + [node.epoch for node in self.nodes.values() if node.opmode == NORM])"),
+    Mutant("answer 9 gives back UNL", "self.nodes[j].set_lock(lmode)", "self.nodes[j].set_lock(UNL)"),
+    Mutant("answer 9 leaves EXP", "self.nodes[j].set_lock(lmode)", "self.nodes[j].set_lock(EXP)"),
+    Mutant("lock refuses EXP", "if node.lmode in (L0, L1):\n            self.give_back", "if node.lmode != UNL:\n            self.give_back"),
+    Mutant(
+        "lock begins anew in the unlock phase",
+        "        if client.rebuild is not None and not client.in_phase(LOCKING):",
+        "        if client.in_phase(UNLOCKING):\n            client.rebuild = None\n"
+        "        elif client.rebuild is not None and not client.in_phase(LOCKING):",
+    ),
+    Mutant("weaken takes data nodes too", "for j in self.redundant_nodes():\n            self.nodes[j].set_lock(L0, c)", "for j in self.nodes:\n            self.nodes[j].set_lock(L0, c)"),
+    Mutant("weaken again before tightened", "if not client.in_phase(PICKING) or client.rebuild.untightened or", "if not client.in_phase(PICKING) or"),
+    Mutant("pick before tightened", "if not client.in_phase(PICKING) or client.rebuild.untightened:", "if not client.in_phase(PICKING):"),
+    Mutant("tightens the highest", "client.rebuild.untightened.pop(0)", "client.rebuild.untightened.pop()"),
+    Mutant("failure keeps the epoch", "self.nodes[j] = Node(opmode=INIT)", "self.nodes[j] = Node(opmode=INIT, epoch=self.nodes[j].epoch)"),
+    Mutant("failure keeps the lock", "self.nodes[j] = Node(opmode=INIT)", "self.nodes[j] = Node(INIT, self.nodes[j].lmode, self.nodes[j].holder)"),
+    Mutant("stop loses the write number", "Client(next_number=self.clients[c].next_number)", "Client()"),
+    Mutant("stop keeps its locks", "        self.expire_held(c)\n        # Its write number stays.", "        # Its write number stays."),
+    Mutant("stop unlocks", "        self.expire_held(c)\n        # Its write number stays.", "        self.give_back(c, self.clients[c].rebuild or Rebuild())\n        # Its write number stays."),
+    Mutant("adds are not aged", "            e.age = min(e.age + 1, Entry.MAX_AGE)", "            e.age = e.age + (id.client != 1)"),
+    Mutant("old entries are not aged", "            e.age = min(e.age + 1, Entry.MAX_AGE)", "            e.age = e.age + e.recent"),
+    Mutant("recent entries only are counted", "return len(self.entries) == self.MAX_ENTRIES", "return len(self.recent_ids()) == self.MAX_ENTRIES"),
+    Mutant("17 entries", "MAX_ENTRIES = 16", "MAX_ENTRIES = 17"),
+    Mutant("9 finished ids", "MAX_FINISHED = 8", "MAX_FINISHED = 9"),
+    Mutant("previous id must be recent", "and not node.lists(hand.previous)", "and hand.previous not in node.recent_ids()"),
+    Mutant("check keeps the previous id", "            hand.previous = None\n", ""),
+    Mutant("check leaves done alone", "            hand.done.remove(j)\n", ""),
+    Mutant("GC only with a previous id", "if hand.previous is None or hand.previous not in recent:", "if hand.previous is not None and hand.previous not in recent:"),
+    Mutant("drop clears the difference", "        client.hand = None\n        return ACCEPTED", "        client.hand = None\n        self.put_difference(c, bytes(self.sizes.B))\n        return ACCEPTED"),
+    Mutant("swap in a round", "if client.hand is not None or client.sweeps > 0:", "if client.hand is not None:"),
+    Mutant("adds at any lmode but L1", "self.lmode in (UNL, L0)", "self.lmode == UNL"),
+    Mutant("quit gives back", "        self.lose(c)\n        return ACCEPTED", "        self.give_back(c, self.clients[c].rebuild)\n        return ACCEPTED"),
+]
+
+
+def mutated(mutant):
+    """The stripe module with the mutant's edit."""
+    assert SOURCE.count(mutant.old) == 1, mutant.name
+    module = types.ModuleType("mutant")
+    exec(SOURCE.replace(mutant.old, mutant.new), module.__dict__)
+    return module
+
+
+def stripe_maker(module):
+    """striperun.new_stripe, for another stripe module."""
+
+    def new_stripe(sizes):
+        fresh = striperun.new_stripe(sizes)
+        return module.Stripe(module.Sizes(*sizes), fresh.spare, fresh.differences)
+
+    return new_stripe
+
+
+def script_of(calls):
+    """"L 1 x3, P 1" stands for the lines L 1, L 1, L 1, P 1."""
+    for item in calls.split(", "):
+        call, _, times = item.partition(" x")
+        yield from [call.strip().encode()] * int(times or 1)
+
+
+def breaks_demand3(module, lines):
+    try:
+        guarantee.replay(lines, stripe_maker(module))
+    except guarantee.Broken:
+        return True
+    return False
+
+
+def differs(module, lines):
+    """Whether striperun's output differs."""
+    expected = striperun.run(lines)
+    got = striperun.run(lines, stripe_maker(module))
+    return any(a != b for a, b in zip(expected, got))
+
+
+def check_breaking(mutant):
+    """Its own list, if any, breaks demand 3 of the mutant and not of the machine."""
+    if not mutant.breaking:
+        return
+    lines = list(script_of(mutant.breaking))
+    guarantee.replay(lines)
+    if not breaks_demand3(mutated(mutant), lines):
+        raise Unnoticed(mutant.name)
+
+
+def main():
+    options = argparse.ArgumentParser(description="wrong machines and who notices them")
+    options.add_argument("--seed", type=int, default=1)
+    options.add_argument("--lists", type=int, default=20)
+    options = options.parse_args()
+    seeds = range(options.seed, options.seed + options.lists)
+    scripts = [list(lists.stripe_script(seed, 2000)) for seed in seeds]
+    unnoticed = []
+    for mutant in MUTANTS:
+        check_breaking(mutant)
+        module = mutated(mutant)
+        noticed = sum(differs(module, lines) for lines in scripts)
+        broken = sum(breaks_demand3(module, lines) for lines in scripts)
+        print(f"{mutant.name}: of {len(scripts)} lists {noticed} notice, {broken} break demand 3", flush=True)
+        if noticed == 0:
+            unnoticed.append(mutant.name)
+    if unnoticed:
+        raise Unnoticed(", ".join(unnoticed))
+
+
+if __name__ == "__main__":
+    main()

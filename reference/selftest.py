@@ -1,0 +1,323 @@
+"""Tests of the second implementation; exits with an error on any difference."""
+
+import random
+import time
+from collections import Counter
+from itertools import combinations
+from pathlib import Path
+
+import code
+import codecheck
+import field
+import guarantee
+import limits
+import lists
+import mutants
+import shelfrun
+import striperun
+from answers import ACCEPTED, Answer
+from script import answer_of, lines_of, read_call
+from stripe import INIT, L0, L1, MAX_EPOCH, MAX_WRITES, NORM, PICKING, RECONS, Entry, Node, Rebuild, Sizes, WriteId
+from striperun import new_stripe
+
+EXAMPLES = Path(__file__).parent / "examples"
+
+
+class Difference(Exception):
+    pass
+
+
+def must(condition, text):
+    if not condition:
+        raise Difference(text)
+
+
+def equal(got, expected):
+    must(got == expected, f"{got!r} is not {expected!r}")
+
+
+# ------------------------------------------------------- field and code
+
+
+def test_field():
+    equal(field.times(2, 0x80), 0x1D)
+    equal(field.inverse(2), 0x8E)
+    equal(sorted(codecheck.power_table()), list(range(1, 256)))
+    for a in range(1, 256):
+        equal(field.times(a, field.inverse(a)), 1)
+
+
+def encoded(k, n, data):
+    table = bytearray(data) + bytearray((n - k) * (len(data) // k))
+    equal(code.encode(k, n, len(data) // k, table), ACCEPTED)
+    return table
+
+
+def test_examples_1_to_5():
+    equal(encoded(2, 4, b"\x01\x00"), b"\x01\x00\x8E\xF4")
+    equal(encoded(2, 4, b"\x00\x01"), b"\x00\x01\xF4\x8E")
+    equal(encoded(2, 4, b"\x01\x01"), b"\x01\x01\x7A\x7A")
+    equal(encoded(2, 4, b"\x02\x00"), b"\x02\x00\x01\xF5")
+    table = bytearray(b"\xA5\xA5\x7A\x7A")
+    equal(code.decode(2, 4, 1, [4, 3], table), ACCEPTED)
+    equal(table, b"\x01\x01\x7A\x7A")
+
+
+def test_every_set_decodes():
+    for k, n in [(2, 3), (2, 4), (3, 5), (4, 7), (6, 12)]:
+        codeword = encoded(k, n, random.Random(k).randbytes(k * 3))
+        for members in combinations(range(1, n + 1), k):
+            equal(codecheck.decoded(k, n, 3, codeword, members), codeword)
+
+
+def test_refusals_of_the_code():
+    table = bytearray(range(4))
+    for k, n, B in [(1, 2, 2), (13, 14, 1), (2, 5, 1), (2, 2, 2), (2, 4, 0), (2, 4, 2), (12, 19, 1)]:
+        equal(code.encode(k, n, B, table), Answer(1))
+        equal(code.decode(k, n, B, [1, 2], table), Answer(1))
+    equal(code.decode(2, 4, 1, [1, 5], table), Answer(2))
+    equal(code.decode(2, 4, 1, [0, 1, 2], table), Answer(2))
+    equal(code.decode(2, 4, 1, [3, 3], table), Answer(11, 1))
+    equal(code.decode(2, 4, 1, [], table), Answer(11, 0))
+    equal(table, bytes(range(4)))
+    # Only the k lowest members count.
+    equal(code.decode(2, 4, 1, [4, 2, 1], table), ACCEPTED)
+    equal(table, encoded(2, 4, b"\x00\x01"))
+
+
+def test_singular_rows():
+    """No set of the code is singular, so the elimination is tried on others."""
+    equal(code.inverse_rows([b"\x01\x02", b"\x02\x04"]), None)
+    equal(code.inverse_rows([b"\x00\x01", b"\x01\x00"]), [b"\x00\x01", b"\x01\x00"])
+
+
+def test_checksum():
+    table = random.Random(1).randbytes(40)
+    equal(codecheck.checksum_by_blocks(7, table, 8), codecheck.checksum(7, table))
+
+
+# ---------------------------------------------------- examples of stripes
+
+
+def played(sizes, calls):
+    """A stripe and its last answer after calls written as "L 1 x4, P 1"."""
+    stripe = new_stripe(Sizes(*sizes))
+    answer = None
+    for line in mutants.script_of(calls):
+        answer = answer_of(stripe, read_call(line))
+    return stripe, answer
+
+
+def test_example_6():
+    calls = "S 1 1 01, A 1 3, C 1, L 2 x4, P 2"
+    equal(played((2, 4, 1, 1, 2), calls)[1], Answer(0, ([1, 2, 3], 0)))
+    stripe, answer = played((2, 4, 1, 1, 2), calls + ", W 2 x4, T 2 x4")
+    equal(answer, Answer(0, "rebuilt"))
+    equal(stripe.blocks, b"\x01\x00\x8E\xF4")
+    equal([node.epoch for node in stripe.nodes.values()], [1] * 4)
+
+
+def test_example_7():
+    equal(played((2, 4, 1, 2, 2), "S 1 1 01, A 1 3, C 1, L 2 x4, P 2")[1], Answer(11, 3))
+
+
+def test_example_8():
+    calls = "S 1 1 01, A 1 3, C 1, N 1 77, L 2 x4, P 2"
+    stripe, answer = played((2, 4, 1, 1, 2), calls)
+    equal(answer, Answer(0, ([2, 3], 0)))
+    equal(stripe.spare, b"\x01\x00\x8E\xF4")
+
+
+def test_example_9():
+    equal(Sizes(1, 2, 1, 0, 1).permitted(), False)
+    equal(Sizes(12, 18, 1, 0, 1).permitted(), True)
+    equal(Sizes(12, 19, 1, 0, 1).permitted(), False)
+
+
+def test_limits_of_sizes():
+    for good in [(2, 3, 1, 0, 1), (2, 4, 4096, 2, 8), (12, 18, 1, 6, 8), (6, 12, 1, 6, 1)]:
+        equal(Sizes(*good).permitted(), True)
+    for bad in [(2, 5, 1, 0, 1), (2, 2, 1, 0, 1), (12, 19, 1, 0, 1), (13, 14, 1, 0, 1), (2, 4, 0, 0, 1), (2, 4, 4097, 0, 1), (2, 4, 1, 3, 1), (2, 4, 1, 0, 0), (2, 4, 1, 0, 9)]:
+        equal(Sizes(*bad).permitted(), False)
+
+
+def test_example_10():
+    sixteen = ", ".join(["S 1 1 01, D 1"] * 16)
+    equal(played((2, 4, 1, 1, 2), sixteen)[1], ACCEPTED)
+    equal(played((2, 4, 1, 1, 2), sixteen + ", S 2 1 01")[1], Answer(7))
+
+
+def test_due():
+    node = Node()
+    node.enter(WriteId(1, 1, 0))
+    node.entries[0].age = 63
+    equal(node.is_due(), False)
+    node.entries[0].age = 64
+    equal(node.is_due(), True)
+    node.mark_old([WriteId(1, 1, 0)])
+    equal(node.is_due(), False)
+    equal(Node(opmode=INIT).is_due(), True)
+
+
+def test_ages():
+    node = Node(entries=[Entry(WriteId(1, 1, 0), False, 254)])
+    node.enter(WriteId(1, 1, 1))
+    node.enter(WriteId(1, 1, 2))
+    equal([e.age for e in node.entries], [255, 1, 0])
+
+
+# ------------------------------------- answers that short lists don't reach
+
+
+def test_answer_8_of_swap():
+    stripe, _ = played((2, 4, 1, 1, 2), "S 1 1 01, D 1")
+    stripe.clients[1].next_number = MAX_WRITES - 1
+    equal(stripe.swap(1, 1, b"\x02"), ACCEPTED)
+    equal(stripe.drop(1), ACCEPTED)
+    equal(stripe.swap(1, 1, b"\x03"), Answer(8))
+    equal(stripe.swap(2, 1, b"\x03"), ACCEPTED)
+
+
+def test_answer_8_of_pick():
+    stripe, _ = played((2, 4, 1, 1, 2), "L 1 x4")
+    stripe.nodes[3].epoch = MAX_EPOCH
+    equal(stripe.pick(1), Answer(8))
+    # The lowest applicable number wins: 8 before 10.
+    stripe.nodes[1].set_lock(L1, 2)
+    equal(stripe.pick(1), Answer(8))
+    stripe.nodes[3].epoch = MAX_EPOCH - 1
+    equal(stripe.pick(1), Answer(10))
+
+
+def test_pick_at_L0():
+    stripe, _ = played((2, 4, 1, 1, 2), "L 1 x4")
+    stripe.nodes[3].set_lock(L0, 1)
+    equal(stripe.pick(1), Answer(10))
+
+
+# ------------------------------------------------------------- programs
+
+
+def test_programs():
+    for run, name in [(striperun.run, "striperun"), (shelfrun.run, "shelfrun")]:
+        with open(EXAMPLES / f"{name}.in", "rb") as script:
+            got = "".join(line + "\n" for line in run(lines_of(script)))
+        equal(got, (EXAMPLES / f"{name}.out").read_text())
+
+
+def test_sizes_refused():
+    for first in [b"1 2 1 0 1", b"2 4 1 1", b"2 4 1 1 2 ", b"", b"2 4 1 -1 2", b"2 4 1 1 2\r"]:
+        equal(list(striperun.run([first, b"R 1", b"", b"?"])), ["1 -"] * 3)
+    equal(list(striperun.run([])), [])
+    equal(list(striperun.run([b"02 4 001 1 2", b"R 1"]))[0].split(" | ")[0], "0 block=00")
+
+
+UNREADABLE = [
+    b"", b" ", b"R", b"R ", b" R 1", b"R 1 ", b"R  1", b"R\t1", b"R 1\r", b"R 1\0", b"r 1", b"R +1", b"R -1", b"R 1 1",
+    b"R 0x1", b"R 1.0", b"R one", b"X 1", b"RR 1", b"R1", b"\xef\xbb\xbfR 1", b"R \xd9\xa1", b"R 1_0", b"S 1 1", b"S 1 1 1",
+    b"S 1 1 001", b"S 1 1 0a", b"S 1 1 0G", b"S 1 1 01 ", b"S 1 1  01", b"S 1 1 0101", b"S 1 01", b"N 1", b"N 1 1", b"A 1", b"L", b"L 1 1",
+]  # fmt: skip
+
+OUT_OF_RANGE = [
+    b"R 0", b"R 3", b"R 00", b"R 256", b"R 257", b"R 4294967297", b"R 18446744073709551617", b"R 1" + b"0" * 10000,
+    b"S 3 1 00", b"S 1 3 00", b"A 1 2", b"A 1 5", b"A 3 3", b"H 1 5", b"N 5 00", b"N 0 00", b"L 3", b"C 0", b"Q 9",
+]  # fmt: skip
+
+
+def test_lines_of_shelfrun():
+    for lines, number in [(UNREADABLE, 1), (OUT_OF_RANGE, 2)]:
+        for line in lines:
+            equal(list(shelfrun.run([line])), [f"1 - {number} -"])
+    equal(list(shelfrun.run([b"R 1", b"R 01", b"R " + b"0" * 10000 + b"2"]))[2], "3 - 0 00")
+    equal(list(shelfrun.run([])), [])
+
+
+# ------------------------------------------------------------ sets of pick
+
+
+def largest_by_search(stripe):
+    """Document 01's rule over all sets of nodes."""
+    consistent = []
+    for size in range(stripe.sizes.n + 1):
+        for members in combinations(stripe.nodes, size):
+            if stripe.is_consistent(members):
+                consistent.append(members)
+    largest = max(len(members) for members in consistent)
+    ties = [members for members in consistent if len(members) == largest]
+    all_data = [members for members in ties if not any(map(stripe.is_redundant, members))]
+    if all_data:
+        return set(all_data[0])
+    return set(min(ties, key=lambda members: min(filter(stripe.is_redundant, members))))
+
+
+def scramble(stripe, rng):
+    """Records with any few entries, marks and opmodes, reached or not."""
+    ids = [WriteId(1, rng.randint(1, stripe.sizes.k), number) for number in range(3)]
+    for j, node in stripe.nodes.items():
+        node.opmode = NORM if rng.random() < 0.85 else rng.choice([INIT, RECONS])
+        own = ids if stripe.is_redundant(j) else [id for id in ids if id.position == j]
+        node.entries = [Entry(id, rng.random() < 0.9) for id in own if rng.random() < 0.6]
+
+
+def test_sets_of_any_records():
+    rng = random.Random(5)
+    for k, n in [(2, 3), (2, 4), (3, 5), (3, 6), (4, 6), (4, 7), (5, 7), (6, 7)]:
+        stripe = new_stripe(Sizes(k, n, 1, 0, 1))
+        for _ in range(60):
+            scramble(stripe, rng)
+            equal(stripe.largest_consistent_set(), largest_by_search(stripe))
+
+
+def test_sets_along_lists():
+    for seed, sizes in enumerate([(2, 3, 1, 1, 2), (2, 4, 1, 1, 3), (3, 6, 1, 0, 3), (4, 7, 1, 1, 3)]):
+        author = lists.stripe_author(random.Random(seed), Sizes(*sizes))
+        for at, _ in enumerate(author.lines(1500)):
+            if at % 8 == 0:
+                equal(author.stripe.largest_consistent_set(), largest_by_search(author.stripe))
+
+
+# ------------------------------------------------------------ random lists
+
+
+def test_guarantee():
+    rebuilds = sum(guarantee.replay(lists.stripe_script(seed, 1000)).rebuilds for seed in range(20))
+    must(rebuilds > 100, f"only {rebuilds} rebuilds finished")
+
+
+def test_answers_occur():
+    """Each answer but 8 and 12, and all records within the limits."""
+    answers = Counter()
+    for seed in range(12):
+        rng = random.Random(seed)
+        author = lists.stripe_author(rng, lists.random_sizes(rng))
+        for _ in author.lines(1000):
+            must(limits.within(author.stripe), "a record is outside the limits")
+        answers += author.answers
+    for number in [0, 1, 2, 3, 4, 5, 6, 7, 9, 10, 11]:
+        must(answers[number] > 10, f"answer {number} occurs {answers[number]} times")
+
+
+def test_wrong_machines():
+    """guarantee.py notices each wrong machine that breaks demand 3."""
+    for mutant in mutants.MUTANTS:
+        mutants.check_breaking(mutant)
+
+
+def test_picking_phase_after_11():
+    stripe, answer = played((2, 4, 1, 2, 2), "S 1 1 01, A 1 3, L 2 x4, P 2")
+    equal(answer, Answer(11, 3))
+    equal(stripe.clients[2].rebuild, Rebuild(PICKING, old_lmodes=["UNL"] * 4))
+    equal(stripe.spare, b"\xAA" * 4)
+
+
+def main():
+    tests = {name: test for name, test in globals().items() if name.startswith("test_")}
+    for name, test in tests.items():
+        begun = time.monotonic()
+        test()
+        print(f"{name[5:].replace('_', ' ')}: {time.monotonic() - begun:.1f} s", flush=True)
+    print(f"all {len(tests)} tests passed")
+
+
+if __name__ == "__main__":
+    main()
