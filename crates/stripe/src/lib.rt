@@ -1,1 +1,4 @@
 // Every call of the machine on records by value and on parts of the tables.
+mod nodes; // nodes.rt: all node records of a stripe, by value
+
+pub use nodes::Nodes;
