@@ -1,3 +1,4 @@
 pub mod Loops
 pub mod NodeLists
 pub mod Changes
+pub mod IdLists

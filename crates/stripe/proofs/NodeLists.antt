@@ -23,8 +23,6 @@ use Rattle.records.specs.Node.{Node, failedNode, isInit, nodeWithin}
 use Rattle.records.specs.View.{entriesOf, nodeOf}
 use Rattle.records.proofs.Lists.{Search, listOf-more, entries-count}
 use Rattle.stripe.specs.declared.nodes.Nodes.{Nodes}
-use Rattle.stripe.specs.declared.nodes.NodeTest.{NodeTest}
-use Rattle.stripe.specs.Nodes.{passes}
 use Rattle.stripe.specs.View.{blankRecord, recordAt, nodesOf, Counted}
 use Rattle.stripe.proofs.nodes.Nodes.{the-type}
 
@@ -64,19 +62,22 @@ node-set n x (suc j) node l h =
 
 -- ---- every node, some node
 
-pub nodes-search : (t : NodeTest) → Search (passes t) (someOf (passes t))
+pub some-search : {A : Type 0} (p : A → Bool) → Search p (someOf p)
 unfolding someOf
-nodes-search t = record { none = refl; more = λ x l. refl }
+some-search p = record { none = refl; more = λ x l. refl }
 
 -- all pass where none fails
-pub every-none : {A : Type 0} (p : A → Bool) (l : List A) → not (someOf (λ x. not (p x)) l) ≡ everyOf p l
+pub none-fails : {A : Type 0} (p : A → Bool) (l : List A) {some : Bool} → some ≡ someOf (λ x. not (p x)) l → not some ≡ everyOf p l
 unfolding someOf everyOf
-every-none p [] = refl
-every-none {A} p (x ∷ l) = by (p x) (every-none p l)
+none-fails {A} p l e = ap not e ∙ go l
   where
-    by : (b : Bool) → not (someOf (λ x. not (p x)) l) ≡ everyOf p l → not (not b || someOf (λ x. not (p x)) l) ≡ (b && everyOf p l)
-    by true e = e
-    by false e = refl
+    by : (b some every : Bool) → not some ≡ every → not (not b || some) ≡ (b && every)
+    by true some every e = e
+    by false some every e = refl
+
+    go : (l : List A) → not (someOf (λ x. not (p x)) l) ≡ everyOf p l
+    go [] = refl
+    go (x ∷ l) = by (p x) (someOf (λ x. not (p x)) l) (everyOf p l) (go l)
 
 every-at : {A : Type 0} (p : A → Bool) (l : List A) (d : A) (i : ℕ) → everyOf p l ≡ true → i < length l → p (getD l i d) ≡ true
 unfolding everyOf

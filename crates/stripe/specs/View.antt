@@ -11,8 +11,10 @@ use Rattle.records.specs.declared.Lmode.{Lmode}
 use Rattle.records.specs.declared.Lmode.the-variants.{Unl, Exp}
 use Rattle.records.specs.declared.Holder.the-variants.{Nobody}
 use Rattle.records.specs.Node.{Node}
-use Rattle.records.specs.View.{nodeOf}
+use Rattle.records.specs.declared.WriteId.{WriteId}
+use Rattle.records.specs.View.{blankId, nodeOf}
 use Rattle.stripe.specs.declared.nodes.Nodes.{Nodes}
+use Rattle.stripe.specs.declared.sets.RecentIds.{RecentIds}
 
 -- what stands past the last item of an array
 abbrev pub blankRecord : NodeRecord
@@ -37,6 +39,10 @@ nodesOf n x = listOf n (λ i. nodeOf (recordAt x i))
 -- the entries of the n records are within their arrays
 pub record Counted (n : ℕ) (x : Nodes) : Type 0 where
   pub few : (i : ℕ) → i < n → recordAt x i .entries .count ≤ 16
+
+-- a node's recent ids
+abbrev pub recentOf : RecentIds → List WriteId
+recentOf s = listOf (s .count) (λ i. getD (s .items) i blankId)
 
 -- the old lmodes of the nodes locked so far, 1 to count
 abbrev pub oldLmode : Bool → Lmode

@@ -107,7 +107,7 @@ impl Nodes {
     }
 
     // Whether some node passes the test.
-    fn any(self, n: usize, test: NodeTest) -> bool
+    pub(crate) fn any(self, n: usize, test: NodeTest) -> bool
         requires { ⌜ (n ≤ 18) × ((i : ℕ) → i < n → Readable test (recordAt self i)) ⌝ }
         ensures { λ r. ⌜ r ≡ someOf (passes test) (nodesOf n self) ⌝ }
     {

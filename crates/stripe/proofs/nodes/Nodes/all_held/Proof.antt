@@ -1,15 +1,8 @@
 -- All pass where none fails. Assumes nothing.
-use mathlib.Core.Path.{ap, _∙_}
-use mathlib.Core.Bool.{not}
 use borrow.Author.Needs.{needs}
-use Rattle.records.specs.Node.{heldBy}
-use Rattle.stripe.specs.View.{nodesOf}
-use Rattle.stripe.proofs.NodeLists.{every-none}
+use Rattle.stripe.proofs.NodeLists.{none-fails}
 use Rattle.stripe.proofs.nodes.Nodes.all_held.Statement.{statement}
 use Rattle.stripe.proofs.nodes.Nodes.all_held.Tie as tie
 
-returns : tie.Need-returns
-returns c = ap not (c .any .ensures) ∙ every-none (heldBy (c .before .args .c)) (nodesOf (c .before .args .n) (c .before .args .self))
-
 pub all-held-spec : {M : Type 1} → statement M
-all-held-spec = tie.close (tie.spec (λ c κs. search needs) returns)
+all-held-spec = tie.close (tie.spec (λ c κs. search needs) (λ c. none-fails _ _ (c .any .ensures)))

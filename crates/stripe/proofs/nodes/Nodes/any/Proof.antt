@@ -7,7 +7,7 @@ use Rattle.records.specs.View.{nodeOf}
 use Rattle.records.proofs.Lists.{Searched, search-start, search-on, search-hit, search-end}
 use Rattle.stripe.specs.Nodes.{passes}
 use Rattle.stripe.specs.View.{recordAt}
-use Rattle.stripe.proofs.NodeLists.{nodes-search}
+use Rattle.stripe.proofs.NodeLists.{some-search}
 use Rattle.stripe.proofs.nodes.Nodes.any.Statement.{statement}
 use Rattle.stripe.proofs.nodes.Nodes.any.Tie as tie
 
@@ -23,12 +23,12 @@ is-passed-requires c κs = c .before .before .before .pre .1 (c .before .before 
 returns : tie.Need-returns Inv-loop μ-loop
 returns c =
     let b = c .before .before .before .before in
-    search-hit (nodes-search (b .before .args .test)) (b .loop .inv) (omega arith) (c .before .is-passed .ensures) (c .if1 .taken)
+    search-hit (some-search (passes (b .before .args .test))) (b .loop .inv) (omega arith) (c .before .is-passed .ensures) (c .if1 .taken)
 
 loop-again : tie.Need-loop-again Inv-loop μ-loop
 loop-again c =
     let b = c .before .before .before .before in
-    search-on (nodes-search (b .before .args .test)) (b .loop .inv) (omega arith) (c .before .is-passed .ensures) (c .if1 .left)
+    search-on (some-search (passes (b .before .args .test))) (b .loop .inv) (omega arith) (c .before .is-passed .ensures) (c .if1 .left)
 
 pub any-spec : {M : Type 1} → statement M
 any-spec =
@@ -36,7 +36,7 @@ any-spec =
     (tie.spec
     Inv-loop
     μ-loop
-    (λ c. search-start (nodes-search (c .args .test)))
+    (λ c. search-start (some-search (passes (c .args .test))))
     (λ c. search needs)
     (λ c. search needs)
     is-passed-requires
