@@ -6,7 +6,7 @@ use mathlib.Core.List.{List, [], _∷_, _++_}
 use Prim.Native.Nat.{ℕ, zero, suc, _+_, _-_, _≤_, _<_, max}
 use native.Mathlib.Decide.{ℕ-discrete}
 use native.Mathlib.Omega.{arith}
-use lib.ListN.{length, getD, set, length-set, length-map}
+use lib.ListN.{length, getD, set, length-set, length-map, List·getD-eq-default}
 use lib.Seq.{ext-getD, getD-set-same, getD-set-other}
 use borrow.Author.Tests.{leb-true}
 use denote.Laws.{Is}
@@ -43,11 +43,19 @@ listOf-set {A} n i old new others =
     at p l (yes e) = rw e (sym (getD-set-same (listOf n old) i (new i) (new i) (omega (arith, length-listOf n old))))
     at p l (no ne) = others p ne ∙ sym (getD-set-other (listOf n old) i p (new i) (new i) ne ∙ getD-listOf n old p (new i) l)
 
--- node j is item j - 1
-pub node-at : (n : ℕ) (x : Nodes) (j : ℕ) → 1 ≤ j → j ≤ n → nodeAt (nodesOf n x) j ≡ nodeOf (recordAt x (j - 1))
+-- node j is item j - 1; past the n there is none
+pub node-item : (n : ℕ) (x : Nodes) (i : ℕ) → i < n → nodeAt (nodesOf n x) (suc i) ≡ nodeOf (recordAt x i)
 unfolding elementAt
+node-item n x i h = getD-listOf n (λ i. nodeOf (recordAt x i)) i failedNode h
+
+pub node-at : (n : ℕ) (x : Nodes) (j : ℕ) → 1 ≤ j → j ≤ n → nodeAt (nodesOf n x) j ≡ nodeOf (recordAt x (j - 1))
 node-at n x zero l h = absurd (omega arith)
-node-at n x (suc j) l h = let e : suc j - 1 ≡ j = omega arith in rw e (getD-listOf n (λ i. nodeOf (recordAt x i)) j failedNode h)
+node-at n x (suc j) l h = let e : suc j - 1 ≡ j = omega arith in rw e (node-item n x j h)
+
+pub node-past : (n : ℕ) (x : Nodes) (j : ℕ) → n < j → nodeAt (nodesOf n x) j ≡ failedNode
+unfolding elementAt
+node-past n x zero h = refl
+node-past n x (suc j) h = List·getD-eq-default (nodesOf n x) failedNode (rw (nodes-count n x) (omega arith))
 
 pub node-set : (n : ℕ) (x : Nodes) (j : ℕ) (node : NodeRecord) → 1 ≤ j → j - 1 < length (x .items)
     → nodesOf n (record { items = set (x .items) (j - 1) node }) ≡ setAt (nodesOf n x) j (nodeOf node)

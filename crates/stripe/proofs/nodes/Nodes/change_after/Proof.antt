@@ -21,7 +21,7 @@ abbrev μ-loop : tie.MeasureT-loop
 loop-again : tie.Need-loop-again Inv-loop μ-loop
 loop-again c =
     let b = c .before .before .before in
-    store-on (b .loop .inv) (c .made .result) (omega arith) (omega (arith, eighteen (b .before .args .t1) _ (b .before .good .0)))
+    store-on (b .loop .inv) (c .made .result) (omega arith)
     (rw (store-next (b .loop .inv)) at (c .made .ensures))
 
 returns : tie.Need-returns Inv-loop μ-loop
@@ -36,7 +36,7 @@ change-after-spec =
     (tie.spec
     Inv-loop
     μ-loop
-    (λ c. store-start (omega arith))
+    (λ c. store-start (omega arith) (omega (arith, eighteen (c .args .t1) _ (c .good .0))))
     (λ c. search needs)
     (λ c. search needs)
     (λ c κs. search needs)

@@ -23,7 +23,7 @@ loop-again : tie.Need-loop-again Inv-loop μ-loop
 unfolding has
 loop-again c =
     let b = c .before .before .before .before .before in
-    store-on (b .loop .inv) (c .give-back .result) (omega arith) (omega (arith, eighteen (b .before .args .t1) _ (b .before .good .0)))
+    store-on (b .loop .inv) (c .give-back .result) (omega arith)
     (rw (store-next (b .loop .inv), c .before .old-lmode .ensures) at (c .give-back .ensures))
 
 returns : tie.Need-returns Inv-loop μ-loop
@@ -38,7 +38,7 @@ restore-spec =
     (tie.spec
     Inv-loop
     μ-loop
-    (λ c. store-start (omega arith))
+    (λ c. store-start (omega arith) (omega (arith, eighteen (c .args .t1) _ (c .good .0))))
     (λ c. search needs)
     (λ c. search needs)
     (λ c. search needs)
