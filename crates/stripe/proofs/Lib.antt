@@ -1,0 +1,5 @@
+pub mod Loops
+pub mod NodeLists
+pub mod Changes
+pub mod IdLists
+pub mod PickedSets

@@ -1,0 +1,223 @@
+// All node records of a stripe, by value.
+ghost use mathlib.Core.Bool.{cond};
+ghost use mathlib.Core.List.{map};
+ghost use mathlib.Core.Path.{_≡_};
+ghost use Prim.Native.Nat.{ℕ, _+_, _<_, _≤_, max};
+ghost use Rattle.machine.specs.Stripe.{nodeAt, setAt, everyOf, someOf};
+ghost use Rattle.machine.specs.Rebuild.{restored, someRecons, countInit, largestEpoch, weakened};
+ghost use Rattle.records.specs.Node.{isInit, heldBy, heldAtL1, expiredFor, nodeWithin};
+ghost use Rattle.records.specs.View.{nodeOf};
+ghost use Rattle.stripe.specs.Nodes.{passes, Readable, changed, changedAfter};
+ghost use Rattle.stripe.specs.View.{recordAt, nodesOf, oldLmode, oldLmodes};
+use code::NodeSet;
+use records::Epoch;
+use records::Lmode;
+use records::NodeRecord;
+use records::Sizes;
+use records::WriteId;
+
+// Node j is item j - 1; a stripe of n nodes has the first n items.
+pub struct Nodes {
+    pub items: [NodeRecord; 18],
+}
+
+// What is asked of a node.
+pub enum NodeTest {
+    Outside(Sizes),
+    NotHeld(u8),
+    NotHeldAtL1(u8),
+    Recons,
+    OldAtNorm(WriteId),
+    Rebuilding(usize),
+}
+
+// What a call does to each of several nodes.
+pub enum NodeChange {
+    Expire(u8),
+    Weaken(u8),
+}
+
+impl NodeTest {
+    fn is_passed(self, node: NodeRecord) -> bool
+        requires { ⌜ Readable self node ⌝ }
+        ensures { λ r. ⌜ r ≡ passes self (nodeOf node) ⌝ }
+    {
+        let opmode = node.opmode;
+        let rset = node.rset;
+        match self {
+            NodeTest::Outside(z) => !node.is_within(z),
+            NodeTest::NotHeld(c) => !node.held_by(c),
+            NodeTest::NotHeldAtL1(c) => !node.held_at_l1(c),
+            NodeTest::Recons => opmode.is_recons(),
+            NodeTest::OldAtNorm(id) => opmode.is_norm() && node.entries.has_old(id),
+            NodeTest::Rebuilding(j) => rset.contains(j),
+        }
+    }
+}
+
+impl NodeChange {
+    fn made(self, node: NodeRecord) -> NodeRecord
+        ensures { λ r. ⌜ nodeOf r ≡ changed self (nodeOf node) ⌝ }
+    {
+        match self {
+            NodeChange::Expire(c) => node.expire(c),
+            NodeChange::Weaken(c) => node.weaken(c),
+        }
+    }
+}
+
+// The number of INIT nodes, one node later.
+fn count_one(count: usize, node: NodeRecord) -> usize
+    requires { ⌜ count < 18 ⌝ }
+    ensures { λ r. ⌜ r ≡ cond (isInit (node .opmode)) (count + 1) count ⌝ }
+{
+    let opmode = node.opmode;
+    if opmode.is_init() { count + 1 } else { count }
+}
+
+// The largest epoch, one node later.
+fn larger_epoch(largest: Epoch, node: NodeRecord) -> Epoch
+    ensures { λ r. ⌜ r .0 ≡ max (node .epoch .0) (largest .0) ⌝ }
+{
+    let epoch = node.epoch;
+    if largest.0 < epoch.0 { epoch } else { largest }
+}
+
+// The lmode of a node before it was locked.
+fn old_lmode(was_exp: bool) -> Lmode
+    ensures { λ r. ⌜ r ≡ oldLmode «was_exp» ⌝ }
+{
+    if was_exp { Lmode::Exp } else { Lmode::Unl }
+}
+
+impl Nodes {
+    pub fn get(self, j: usize) -> NodeRecord
+        requires { ⌜ (1 ≤ j) × (j ≤ 18) ⌝ }
+        ensures { λ r. ⌜ ((n : ℕ) → j ≤ n → nodeOf r ≡ nodeAt (nodesOf n self) j) ⌝ }
+    {
+        self.items[j - 1]
+    }
+
+    pub fn set(mut self, j: usize, node: NodeRecord) -> Self
+        requires { ⌜ (1 ≤ j) × (j ≤ 18) ⌝ }
+        ensures { λ r. ⌜ ((n : ℕ) → nodesOf n r ≡ setAt (nodesOf n self) j (nodeOf node)) ⌝ }
+    {
+        self.items[j - 1] = node;
+        self
+    }
+
+    // Whether some node passes the test.
+    pub(crate) fn any(self, n: usize, test: NodeTest) -> bool
+        requires { ⌜ (n ≤ 18) × ((i : ℕ) → i < n → Readable test (recordAt self i)) ⌝ }
+        ensures { λ r. ⌜ r ≡ someOf (passes test) (nodesOf n self) ⌝ }
+    {
+        let mut i = 0;
+        while i < n {
+            let node = self.items[i];
+            if test.is_passed(node) {
+                return true;
+            }
+            i += 1;
+        }
+        false
+    }
+
+    pub fn are_within(self, z: Sizes) -> bool
+        requires { ⌜ z .n ≤ 18 ⌝ }
+        ensures { λ r. ⌜ r ≡ everyOf (nodeWithin z) (nodesOf (z .n) self) ⌝ }
+    {
+        !self.any(z.n, NodeTest::Outside(z))
+    }
+
+    pub fn all_held(self, n: usize, c: u8) -> bool
+        requires { ⌜ n ≤ 18 ⌝ }
+        ensures { λ r. ⌜ r ≡ everyOf (heldBy c) (nodesOf n self) ⌝ }
+    {
+        !self.any(n, NodeTest::NotHeld(c))
+    }
+
+    pub fn all_held_at_l1(self, n: usize, c: u8) -> bool
+        requires { ⌜ n ≤ 18 ⌝ }
+        ensures { λ r. ⌜ r ≡ everyOf (heldAtL1 c) (nodesOf n self) ⌝ }
+    {
+        !self.any(n, NodeTest::NotHeldAtL1(c))
+    }
+
+    pub fn some_recons(self, n: usize) -> bool
+        requires { ⌜ n ≤ 18 ⌝ }
+        ensures { λ r. ⌜ r ≡ someRecons (nodesOf n self) ⌝ }
+    {
+        self.any(n, NodeTest::Recons)
+    }
+
+    pub fn count_init(self, n: usize) -> usize
+        requires { ⌜ n ≤ 18 ⌝ }
+        ensures { λ r. ⌜ r ≡ countInit (nodesOf n self) ⌝ }
+    {
+        let mut count = 0;
+        let mut i = 0;
+        while i < n {
+            let node = self.items[i];
+            count = count_one(count, node);
+            i += 1;
+        }
+        count
+    }
+
+    pub fn largest_epoch(self, n: usize) -> Epoch
+        requires { ⌜ n ≤ 18 ⌝ }
+        ensures { λ r. ⌜ r .0 ≡ largestEpoch (nodesOf n self) ⌝ }
+    {
+        let mut largest = Epoch(0);
+        let mut i = 0;
+        while i < n {
+            let node = self.items[i];
+            largest = larger_epoch(largest, node);
+            i += 1;
+        }
+        largest
+    }
+
+    // Each node after the first k changed.
+    fn change_after(mut self, k: usize, n: usize, change: NodeChange) -> Self
+        requires { ⌜ (k ≤ n) × (n ≤ 18) ⌝ }
+        ensures { λ r. ⌜ nodesOf n r ≡ changedAfter k change (nodesOf n self) ⌝ }
+    {
+        let mut i = k;
+        while i < n {
+            let node = self.items[i];
+            self.items[i] = change.made(node);
+            i += 1;
+        }
+        self
+    }
+
+    pub fn expire(self, n: usize, c: u8) -> Self
+        requires { ⌜ n ≤ 18 ⌝ }
+        ensures { λ r. ⌜ nodesOf n r ≡ map (expiredFor c) (nodesOf n self) ⌝ }
+    {
+        self.change_after(0, n, NodeChange::Expire(c))
+    }
+
+    pub fn weaken(self, z: Sizes, c: u8) -> Self
+        requires { ⌜ (z .k ≤ z .n) × (z .n ≤ 18) ⌝ }
+        ensures { λ r. ⌜ nodesOf (z .n) r ≡ weakened z c (nodesOf (z .n) self) ⌝ }
+    {
+        self.change_after(z.k, z.n, NodeChange::Weaken(c))
+    }
+
+    // Of nodes 1 to count, those that c still holds get their old lmode: EXP if in was_exp, else UNL.
+    pub fn restore(mut self, count: usize, c: u8, was_exp: NodeSet) -> Self
+        requires { ⌜ count ≤ 18 ⌝ }
+        ensures { λ r. ⌜ ((n : ℕ) → nodesOf n r ≡ restored c (oldLmodes count («was_exp» .has)) (nodesOf n self)) ⌝ }
+    {
+        let mut i = 0;
+        while i < count {
+            let node = self.items[i];
+            let old = old_lmode(was_exp.has[i]);
+            self.items[i] = node.give_back(c, old);
+            i += 1;
+        }
+        self
+    }
+}
