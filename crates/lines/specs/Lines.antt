@@ -8,23 +8,27 @@ use lib.Dec.{eqb, leb}
 use Rattle.machine.specs.Stripe.{Answer, Accepted, Shown, Added, Done, CheckInit, CheckGc, NoChange, Rebuilt, Refused, number}
 use Rattle.machine.specs.Calls.{Call, Read, Swap, Add, Check, Drop, Sweep, Stop, Fail, Lock, Pick, Weaken, Tighten, Write, Settle, Unlock, Quit}
 
+-- a byte before the first part
+abbrev pub onto : ℕ → List (List ℕ) → List (List ℕ)
+onto x [] = []
+onto x (p ∷ ps) = (x ∷ p) ∷ ps
+
 -- the parts of a list between the bytes d: one more than there are of them
 unfoldable pub parts : ℕ → List ℕ → List (List ℕ)
 parts d [] = [] ∷ []
 parts d (x ∷ xs) = cond (eqb x d) ([] ∷ parts d xs) (onto x (parts d xs))
-  where
-    onto : ℕ → List (List ℕ) → List (List ℕ)
-    onto x [] = []
-    onto x (p ∷ ps) = (x ∷ p) ∷ ps
 
 -- "fields are one space apart"
 abbrev pub fields : List ℕ → List (List ℕ)
 fields line = parts 32 line
 
 -- one or more decimal digits
+abbrev pub isDigit : ℕ → Bool
+isDigit x = leb 48 x && leb x 57
+
 unfoldable pub digitsFrom : ℕ → List ℕ → Option ℕ
 digitsFrom n [] = some n
-digitsFrom n (x ∷ xs) = cond (leb 48 x && leb x 57) (digitsFrom (n * 10 + (x - 48)) xs) none
+digitsFrom n (x ∷ xs) = cond (isDigit x) (digitsFrom (n * 10 + (x - 48)) xs) none
 
 unfoldable pub numeral : List ℕ → Option ℕ
 numeral [] = none
@@ -32,7 +36,7 @@ numeral (x ∷ xs) = digitsFrom 0 (x ∷ xs)
 
 -- "Bytes are two hexadecimal digits, capitals"
 unfoldable pub hexDigit : ℕ → Option ℕ
-hexDigit x = cond (leb 48 x && leb x 57) (some (x - 48)) (cond (leb 65 x && leb x 70) (some (x - 55)) none)
+hexDigit x = cond (isDigit x) (some (x - 48)) (cond (leb 65 x && leb x 70) (some (x - 55)) none)
 
 abbrev pub both : Option ℕ → Option ℕ → Option (List ℕ) → Option (List ℕ)
 both none y rest = none
