@@ -4,9 +4,14 @@ use mathlib.Core.Bool.{Bool, true, false, cond, _&&_, _||_}
 use mathlib.Core.List.{List, [], _∷_, _++_}
 use mathlib.Core.Option.{Option, none, some}
 use Prim.Native.Nat.{ℕ, zero, suc, _+_, _-_, _*_, _/_, _%_}
-use lib.Dec.{eqb, leb}
-use Rattle.machine.specs.Stripe.{Answer, Accepted, Shown, Added, Done, CheckInit, CheckGc, NoChange, Rebuilt, Refused, number}
+use lib.Dec.{eqb, leb, ltb}
+use Rattle.machine.specs.Stripe as Stripe
+use Rattle.machine.specs.Stripe.{Answer, Accepted, Added, Done, CheckInit, CheckGc, NoChange, Rebuilt, Refused, number}
 use Rattle.machine.specs.Calls.{Call, Read, Swap, Add, Check, Drop, Sweep, Stop, Fail, Lock, Pick, Weaken, Tighten, Write, Settle, Unlock, Quit}
+use Rattle.lines.specs.declared.writer.Event.{Event}
+use Rattle.lines.specs.declared.writer.Event.the-variants as Events
+use Rattle.lines.specs.declared.writer.Shown.{Shown}
+use Rattle.lines.specs.declared.writer.Shown.the-variants as Showns
 
 -- a byte before the first part
 abbrev pub onto : ℕ → List (List ℕ) → List (List ℕ)
@@ -107,14 +112,10 @@ call line = lineOf (fields line)
 
 ---- output
 
--- "Events: swapped, added, locked (each lock), rebuilt (the nth settle)"
-pub data Event : Type 0 where
-  Swapped Added' Locked Rebuilt' None : Event
-
--- the answer's event, by its call
+-- "Events: swapped, added, locked (each lock), rebuilt (the nth settle)": the answer's event, by its call
 abbrev pub isRebuilt : Answer → Bool
 isRebuilt Accepted = false
-isRebuilt (Shown block) = false
+isRebuilt (Stripe.Shown block) = false
 isRebuilt Added = false
 isRebuilt Done = false
 isRebuilt CheckInit = false
@@ -124,30 +125,30 @@ isRebuilt Rebuilt = true
 isRebuilt (Refused why) = false
 
 abbrev pub eventOf : Call → Answer → Event
-eventOf (Read i) a = None
-eventOf (Swap c i value) a = cond (eqb (number a) 0) Swapped None
-eventOf (Add c j) a = cond (eqb (number a) 0) Added' None
-eventOf (Check c j) a = None
-eventOf (Drop c) a = None
-eventOf (Sweep c) a = None
-eventOf (Stop c) a = None
-eventOf (Fail j value) a = None
-eventOf (Lock c) a = cond (eqb (number a) 0) Locked None
-eventOf (Pick c) a = None
-eventOf (Weaken c) a = None
-eventOf (Tighten c) a = None
-eventOf (Write c) a = None
-eventOf (Settle c) a = cond (isRebuilt a) Rebuilt' None
-eventOf (Unlock c) a = None
-eventOf (Quit c) a = None
+eventOf (Read i) a = Events.None
+eventOf (Swap c i value) a = cond (eqb (number a) 0) Events.Swapped Events.None
+eventOf (Add c j) a = cond (eqb (number a) 0) Events.Added Events.None
+eventOf (Check c j) a = Events.None
+eventOf (Drop c) a = Events.None
+eventOf (Sweep c) a = Events.None
+eventOf (Stop c) a = Events.None
+eventOf (Fail j value) a = Events.None
+eventOf (Lock c) a = cond (eqb (number a) 0) Events.Locked Events.None
+eventOf (Pick c) a = Events.None
+eventOf (Weaken c) a = Events.None
+eventOf (Tighten c) a = Events.None
+eventOf (Write c) a = Events.None
+eventOf (Settle c) a = cond (isRebuilt a) Events.Rebuilt Events.None
+eventOf (Unlock c) a = Events.None
+eventOf (Quit c) a = Events.None
 
 -- the words, in ASCII
 abbrev pub word : Event → List ℕ
-word Swapped = 115 ∷ 119 ∷ 97 ∷ 112 ∷ 112 ∷ 101 ∷ 100 ∷ []
-word Added' = 97 ∷ 100 ∷ 100 ∷ 101 ∷ 100 ∷ []
-word Locked = 108 ∷ 111 ∷ 99 ∷ 107 ∷ 101 ∷ 100 ∷ []
-word Rebuilt' = 114 ∷ 101 ∷ 98 ∷ 117 ∷ 105 ∷ 108 ∷ 116 ∷ []
-word None = 45 ∷ []
+word Events.Swapped = 115 ∷ 119 ∷ 97 ∷ 112 ∷ 112 ∷ 101 ∷ 100 ∷ []
+word Events.Added = 97 ∷ 100 ∷ 100 ∷ 101 ∷ 100 ∷ []
+word Events.Locked = 108 ∷ 111 ∷ 99 ∷ 107 ∷ 101 ∷ 100 ∷ []
+word Events.Rebuilt = 114 ∷ 101 ∷ 98 ∷ 117 ∷ 105 ∷ 108 ∷ 116 ∷ []
+word Events.None = 45 ∷ []
 
 -- capitals
 abbrev pub hexOf : ℕ → ℕ
@@ -155,12 +156,12 @@ hexOf x = cond (leb x 9) (48 + x) (55 + x)
 
 unfoldable pub hex : List ℕ → List ℕ
 hex [] = []
-hex (x ∷ xs) = hexOf (x / 16 % 16) ∷ hexOf (x % 16) ∷ hex xs
+hex (x ∷ xs) = hexOf (x / 16) ∷ hexOf (x % 16) ∷ hex xs
 
 -- "and the byte read or '-'"
 abbrev pub shown : Answer → List ℕ
 shown Accepted = 45 ∷ []
-shown (Shown block) = hex block
+shown (Stripe.Shown block) = hex block
 shown Added = 45 ∷ []
 shown Done = 45 ∷ []
 shown CheckInit = 45 ∷ []
@@ -168,3 +169,28 @@ shown CheckGc = 45 ∷ []
 shown NoChange = 45 ∷ []
 shown Rebuilt = 45 ∷ []
 shown (Refused why) = 45 ∷ []
+
+-- what is shown of a block of one byte
+abbrev pub shownText : Shown → List ℕ
+shownText Showns.Nothing = 45 ∷ []
+shownText (Showns.Byte b) = hex (b ∷ [])
+
+-- the decimal digits of a number of at most so many
+unfoldable pub decimalIn : ℕ → ℕ → List ℕ
+decimalIn zero n = []
+decimalIn (suc places) n = cond (ltb n 10) ((48 + n) ∷ []) (decimalIn places (n / 10) ++ (48 + n % 10) ∷ [])
+
+-- 20 hold every number of 64 bits
+abbrev pub decimal : ℕ → List ℕ
+decimal n = decimalIn 20 n
+
+-- a field and the space after it; the last field and the end of the line
+abbrev pub spaced : List ℕ → List ℕ
+spaced field = field ++ 32 ∷ []
+
+abbrev pub ended : List ℕ → List ℕ
+ended field = field ++ 10 ∷ []
+
+-- "its number from 1, an event or "-", the answer number (0 if accepted), and the byte read or "-""
+abbrev pub printed : ℕ → Event → ℕ → List ℕ → List ℕ
+printed number event answer text = spaced (decimal number) ++ (spaced (word event) ++ (spaced (decimal answer) ++ ended text))

@@ -1,10 +1,9 @@
 // A line of input, read byte by byte: the reader keeps what it needs of the bytes so far, and lines may have any length.
 ghost use mathlib.Core.Option.{some};
-ghost use mathlib.Core.List.{List, [], _∷_, _++_};
+ghost use mathlib.Core.List.{List, [], _∷_};
 ghost use mathlib.Core.Path.{_≡_};
-ghost use mathlib.Core.Bool.{true, _&&_};
-ghost use Prim.Native.Nat.{ℕ, _+_, _-_, _*_, _≤_, min};
-ghost use lib.ListN.{length};
+ghost use mathlib.Core.Bool.{true};
+ghost use Prim.Native.Nat.{ℕ, _+_, _-_, _*_};
 ghost use Rattle.lines.specs.Lines.{isDigit, withOne, withTwo};
 ghost use Rattle.lines.specs.Reading.{Holds, Takes, Follows, Ends, callIn, kept, withTarget, Stored, HexByte, HexDigit, clipNumber, numberFrom};
 
