@@ -1,0 +1,4 @@
+pub mod Clips
+pub mod Decimal
+pub mod Reading
+pub mod Writing
