@@ -10,14 +10,14 @@ returns c =
     let s = c .before in
     let o = s .before .before in
     let g = o .before .before .before in
-    rw (← o .besides .ensures, ← s .before .size .ensures, ← s .size2 .ensures, ← g .get .ensures (g .before .args .z .n) (omega arith), ← o .before .before .is-norm .ensures, o .before .if1 .taken, lt-ltb _ _ (c .if2 .taken))
+    rw (← o .besides .ensures, ← s .before .size .ensures .0, ← s .size2 .ensures .0, ← g .get .ensures (g .before .args .z .n) (omega arith), ← o .before .before .is-norm .ensures, o .before .if1 .taken, lt-ltb _ _ (c .if2 .taken))
 
 returns-2 : tie.Need-returns-2
 returns-2 c =
     let s = c .before in
     let o = s .before .before in
     let g = o .before .before .before in
-    rw (← o .besides .ensures, ← s .before .size .ensures, ← s .size2 .ensures, ← g .get .ensures (g .before .args .z .n) (omega arith), ← o .before .before .is-norm .ensures, o .before .if1 .taken, le-ltb _ _ (c .if2 .left))
+    rw (← o .besides .ensures, ← s .before .size .ensures .0, ← s .size2 .ensures .0, ← g .get .ensures (g .before .args .z .n) (omega arith), ← o .before .before .is-norm .ensures, o .before .if1 .taken, le-ltb _ _ (c .if2 .left))
 
 returns-3 : tie.Need-returns-3
 returns-3 c =
