@@ -9,9 +9,9 @@ const N: usize = 18;
 const LOST: usize = N - K;
 const LENGTHS: [usize; 3] = [64, 512, 4096];
 
-const WARM_UP: Duration = Duration::from_millis(100);
-const ROUND: Duration = Duration::from_millis(20);
-const ROUNDS: usize = 15;
+const WARM_UP: Duration = Duration::from_millis(50);
+const ROUND: Duration = Duration::from_millis(2);
+const ROUNDS: usize = 150;
 
 /// At place c the products of c with 0 to 255.
 type Rows = Vec<[u8; 256]>;
@@ -80,7 +80,7 @@ fn round(work: &mut impl FnMut(), calls: u32) -> f64 {
     started.elapsed().as_secs_f64() / calls as f64
 }
 
-/// A line of the table, on calls that multiply so many bytes: the best of several rounds, which alternate between the two.
+/// A line of the table, on calls that multiply so many bytes: the best of many short rounds, which alternate between the two.
 /// Returns the library's GB/s and its ratio to the row loop.
 fn line(
     name: &str,

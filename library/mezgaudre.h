@@ -8,6 +8,10 @@
 #include <stddef.h>
 #include <stdint.h>
 
+#ifdef __cplusplus
+extern "C" {
+#endif
+
 /* The numbers of the answers. Only encoding or decoding answered MEZGAUDRE_ACCEPTED has written to out. */
 enum {
     MEZGAUDRE_ACCEPTED = 0,
@@ -37,5 +41,9 @@ uint8_t mezgaudre_product(uint8_t a, uint8_t b);
 /* Adds c times src to dst, and returns MEZGAUDRE_ACCEPTED; or where the lengths differ does nothing, and returns
    MEZGAUDRE_OUT_OF_LIMITS. */
 uint32_t mezgaudre_add_times(uint8_t *dst, size_t dst_length, const uint8_t *src, size_t src_length, uint8_t c);
+
+#ifdef __cplusplus
+}
+#endif
 
 #endif

@@ -6,13 +6,14 @@ use lib.ListN.{length}
 use Rattle.codecheck.specs.declared.Sizes.{Sizes}
 use Rattle.codecheck.specs.declared.cases.Lengths.{Lengths}
 
+-- no larger than the largest case, 12 of 18 nodes at 4,096 bytes
 pub record Within (s : Sizes) : Type 0 where
   pub data-nodes : s .k ≤ 12
   pub nodes : s .k ≤ s .n
   pub redundant-nodes : s .n - s .k ≤ 6
   pub block : s .b ≤ 4096
 
--- the buffers of a case have room
+-- buffers of these lengths hold n blocks, in the parts data and redundant, and are no longer than those of the largest case
 pub record Room (s : Sizes) (r : Lengths) : Type 0 where
   pub nodes : r .table ≡ s .n * s .b
   pub parts : r .table ≡ r .«data» + r .redundant
