@@ -13,6 +13,8 @@ mod weights; // weights.rt: with what weight a block counts in another
 pub mod nodes; // nodes.rt: sets of nodes
 
 pub use nodes::NodeSet;
+pub use recovering::recover_table;
+pub use weights::coefficient;
 
 // The answer of encoding and decoding.
 pub enum CodeAnswer {

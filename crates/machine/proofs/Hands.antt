@@ -8,10 +8,10 @@ use native.Mathlib.Decide.{decLt}
 use native.Mathlib.Omega.{arith}
 use Rattle.code.specs.Decode.{NodeSet, has, excluding}
 use Rattle.records.specs.declared.Previous.the-variants.{Id}
-use Rattle.records.specs.Entries.{isRecentIn}
+use Rattle.records.specs.Entries.{isRecentIn, previousRecent}
 use Rattle.records.specs.Node.{isNorm}
 use Rattle.records.specs.Client.{Write}
-use Rattle.machine.specs.Writing.{withDone, forgetting, previousRecent}
+use Rattle.machine.specs.Writing.{withDone, forgetting}
 use Rattle.machine.proofs.Base.{upd, upd-ind, each-place, clash, is-true, some-same, not-some}
 use Rattle.machine.proofs.EntryLaws.{recent-listed}
 use Rattle.machine.proofs.Columns.{Ops, Columns, setHands}

@@ -17,7 +17,7 @@ use Rattle.records.specs.declared.Entry.{Entry}
 use Rattle.records.specs.declared.Refusal.{Refusal}
 use Rattle.records.specs.declared.Previous.{Previous}
 use Rattle.records.specs.declared.Previous.the-variants.{Nothing, Id}
-use Rattle.records.specs.Entries.{enter, isListed, isRecentIn}
+use Rattle.records.specs.Entries.{enter, isListed, isRecentIn, previousRecent}
 use Rattle.records.specs.Sizes.{sizesWithin, isClient, isPosition, isNode, isRedundant}
 use Rattle.records.specs.Node.{Node, withEntries, failedNode, nodeWithin}
 use Rattle.records.specs.Node as Node
@@ -332,7 +332,7 @@ module _ (z : Sizes) (L : Laws (ops z)) (h : Ledger Block) (s : Stripe) (g : Goo
         (λ gone.
         let old = not-true (isRecentIn (w .id) (C .entries j)) gone in
         kept-hand check j c CheckInit _ client (λ b. refl) (check-init-good (ops z) L h C c j w g e old))
-        (λ there. cond-ind (After check j c) (Writing.previousRecent (w .previous) (C .entries j)) _ _
+        (λ there. cond-ind (After check j c) (previousRecent (w .previous) (C .entries j)) _ _
         (λ known. kept-same check j c NoChange (λ b. refl))
         (λ unknown.
         let recent = not-false (isRecentIn (w .id) (C .entries j)) there in

@@ -7,7 +7,7 @@ use Prim.Native.Nat.{ℕ, zero, suc, _+_}
 use lib.Dec.{leb}
 use lib.ListN.{length}
 use Rattle.code.specs.Decode.{including}
-use Rattle.records.specs.Entries.{isRecentIn}
+use Rattle.records.specs.Entries.{isRecentIn, previousRecent}
 use Rattle.records.specs.Node.{isL0, isL1}
 use native.Mathlib.Omega.{arith}
 use Rattle.records.specs.declared.Sizes.{Sizes}
@@ -92,7 +92,7 @@ module _ (z : Sizes) where
     checked-same j (some w) =
         same-guard l _ _ _
         (same-cond l (not (isRecentIn (w .id) (l .node .entries))) _ _ (accepted _ _ refl)
-        (same-cond l (Writing.previousRecent (w .previous) (l .node .entries)) _ _ (accepted _ _ refl) (accepted _ _ refl)))
+        (same-cond l (previousRecent (w .previous) (l .node .entries)) _ _ (accepted _ _ refl) (accepted _ _ refl)))
 
     check-same : (c j : ℕ) → Same l (Writing.check z c j l)
     unfolding Writing.check

@@ -15,10 +15,17 @@ use Rattle.records.specs.declared.Previous.the-variants.{Nothing, Id}
 use Rattle.records.specs.declared.WriteId.{WriteId}
 use Rattle.records.specs.declared.Refusal.the-variants.{OutOfLimits, OutOfRange, OutOfPhase, WrongMode, OldEpoch, BeforePrevious, Full, Exhausted}
 use Rattle.records.specs.Sizes.{sizesWithin, isNode, isPosition, isRedundant, isClient}
-use Rattle.records.specs.Entries.{isListed, isRecentIn, lastRecent, discard, markOld}
+use Rattle.records.specs.Entries.{isListed, isRecentIn, previousRecent, lastRecent, discard, markOld}
 use Rattle.records.specs.Node.{Node, entryLimit, isFree, takesAdd, entered, withEntries, expiredFor, failedNode, nodeWithin}
 use Rattle.records.specs.Client.{Client, Write, finishedLimit, writeLimit, hasWrite, withHand, began, finishedWrite, sweptOn, stopped, clientWithin}
 use Rattle.machine.specs.Stripe.{Answer, Accepted, Shown, Added, Done, CheckInit, CheckGc, NoChange, Outcome, answered, refused, guard, Local, Whole, blocksFit, differencesFit, nodesFit}
+
+-- "1: size, record or buffer length outside the limits": the records and the tables that a call is lent
+abbrev pub recordsFit : Sizes → Local → Bool
+recordsFit z l = nodeWithin z (l .node) && clientWithin z (l .client)
+
+abbrev pub tablesFit : Sizes → Local → Bool
+tablesFit z l = blocksFit z (l .blocks) && differencesFit z (l .differences)
 
 -- "4: the needs on modes are not met", with the node's opmode and lmode
 abbrev pub needing : Bool → Local → Outcome Local → Outcome Local
@@ -53,9 +60,7 @@ swapped z c i value l =
 -- "Swap c, i, value: needs node i NORM and UNL."
 unfoldable pub swap : Sizes → ℕ → ℕ → List ℕ → Local → Outcome Local
 swap z c i value l =
-    guard
-    (not (sizesWithin z && ((nodeWithin z (l .node) && clientWithin z (l .client)) && ((blocksFit z (l .blocks) && differencesFit z (l .differences)) && eqb (length value) (z .b)))))
-    OutOfLimits l
+    guard (not (sizesWithin z && (recordsFit z l && (tablesFit z l && eqb (length value) (z .b))))) OutOfLimits l
     (guard (not (isClient z c && isPosition z i)) OutOfRange l
     (guard (hasWrite (l .client .hand) || leb 1 (l .client .round)) OutOfPhase l
     (needing (isFree (l .node)) l
@@ -104,15 +109,9 @@ addWrite z c j (some w) l =
 -- "Add c, j (j redundant): needs NORM, lmode UNL or L0, and node epoch at most the write's."
 unfoldable pub add : Sizes → ℕ → ℕ → Local → Outcome Local
 add z c j l =
-    guard (not (sizesWithin z && ((nodeWithin z (l .node) && clientWithin z (l .client)) && (blocksFit z (l .blocks) && differencesFit z (l .differences)))))
-    OutOfLimits l
+    guard (not (sizesWithin z && (recordsFit z l && tablesFit z l))) OutOfLimits l
     (guard (not (isClient z c && isRedundant z j)) OutOfRange l
     (addWrite z c j (l .client .hand) l))
-
--- "there is no previous id, or it isn't recent there"
-abbrev pub previousRecent : Previous → List Entry → Bool
-previousRecent Nothing es = false
-previousRecent (Id x) es = isRecentIn x es
 
 abbrev pub forgetting : Write → Write
 forgetting w = record { id = w .id; previous = Nothing; epoch = w .epoch; done = w .done }
@@ -134,7 +133,7 @@ checkWrite j (some w) l =
 -- becomes none (GC). Else NoChange."
 unfoldable pub check : Sizes → ℕ → ℕ → Local → Outcome Local
 check z c j l =
-    guard (not (sizesWithin z && (nodeWithin z (l .node) && clientWithin z (l .client)))) OutOfLimits l
+    guard (not (sizesWithin z && recordsFit z l)) OutOfLimits l
     (guard (not (isClient z c && isNode z j)) OutOfRange l
     (checkWrite j (l .client .hand) l))
 
@@ -166,7 +165,7 @@ swept z l =
 -- "Sweep c: one node per call, needing NORM and UNL."
 unfoldable pub sweep : Sizes → ℕ → Local → Outcome Local
 sweep z c l =
-    guard (not (sizesWithin z && (nodeWithin z (l .node) && clientWithin z (l .client)))) OutOfLimits l
+    guard (not (sizesWithin z && recordsFit z l)) OutOfLimits l
     (guard (not (isClient z c)) OutOfRange l
     (guard (hasWrite (l .client .hand)) OutOfPhase l
     (needing (isFree (l .node)) l

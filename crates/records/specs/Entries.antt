@@ -47,6 +47,11 @@ lastRecentAfter p (e ∷ es) = lastRecentAfter (cond (isRecent e) (Id (e .id)) p
 abbrev pub lastRecent : List Entry → Previous
 lastRecent es = lastRecentAfter Nothing es
 
+-- "there is no previous id, or it isn't recent there"
+abbrev pub previousRecent : Previous → List Entry → Bool
+previousRecent Nothing es = false
+previousRecent (Id x) es = isRecentIn x es
+
 -- "An entry's age starts at 0 and rises by 1, up to 255, at each later swap or add accepted there"
 abbrev pub older : Age → Age
 older a = record { 0 = cond (ltb (a .0) 255) (a .0 + 1) (a .0) }

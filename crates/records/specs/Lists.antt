@@ -1,12 +1,12 @@
 -- What the loops over a list ask of each element, and do to each entry, by the enums of the code; and the same of the whole list. Assumes nothing.
-use mathlib.Core.Bool.{Bool, true, false, cond, _&&_, not}
+use mathlib.Core.Bool.{Bool, cond, _&&_, not}
 use mathlib.Core.List.{List, [], _∷_}
 use lib.Dec.{leb}
 use Rattle.records.specs.declared.WriteId.{WriteId}
 use Rattle.records.specs.declared.Entry.{Entry}
 use Rattle.records.specs.declared.Mark.the-variants.{Recent, Old}
 use Rattle.records.specs.declared.Previous.{Previous}
-use Rattle.records.specs.declared.Previous.the-variants.{Nothing, Id}
+use Rattle.records.specs.declared.Previous.the-variants.{Id}
 use Rattle.records.specs.declared.write_ids.IdTest.{IdTest}
 use Rattle.records.specs.declared.write_ids.IdTest.the-variants as IdTest
 use Rattle.records.specs.declared.node_entries.EntryTest.{EntryTest}
@@ -65,8 +65,3 @@ changed Discard ids es = discard ids es
 -- the last recent id, one entry later
 abbrev pub lastRecentOf : Entry → Previous → Previous
 lastRecentOf e p = cond (isRecent e) (Id (e .id)) p
-
--- "there is no previous id, or it isn't recent there"
-abbrev pub previousRecent : Previous → List Entry → Bool
-previousRecent Nothing es = false
-previousRecent (Id x) es = isRecentIn x es

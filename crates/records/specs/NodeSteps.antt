@@ -19,9 +19,8 @@ use Rattle.records.specs.declared.CheckAnswer.{CheckAnswer}
 use Rattle.records.specs.declared.CheckAnswer.the-variants.{Init, Gc, NoChange}
 use Rattle.records.specs.declared.Refusal.{Refusal}
 use Rattle.records.specs.declared.Refusal.the-variants.{WrongMode, OldEpoch, BeforePrevious, Full, Locked}
-use Rattle.records.specs.Entries.{isListed, isRecentIn}
+use Rattle.records.specs.Entries.{isListed, isRecentIn, previousRecent}
 use Rattle.records.specs.Node.{Node, entryLimit, isFree, takesAdd, isL0, isL1}
-use Rattle.records.specs.Lists.{previousRecent}
 use Rattle.records.specs.View.{nodeOf}
 
 -- a node with nothing: fresh it is NORM, failed it is INIT

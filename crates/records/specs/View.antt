@@ -1,6 +1,6 @@
 -- How the records of the code are seen as those of document 01. A list is the first `count` items of its array; where the count is beyond the
 -- array, blank items stand for the rest, so that the list is as long as the count says, and such a record is outside the limits. Assumes nothing.
-use mathlib.Core.Bool.{cond}
+use mathlib.Core.Bool.{Bool, cond}
 use mathlib.Core.List.{List}
 use mathlib.Core.Option.{Option, none, some}
 use Prim.Native.Nat.{ℕ, suc}
@@ -46,8 +46,11 @@ handOf Empty done = none
 handOf (Holding w) done = some (writeOf w done)
 
 -- of the x nodes locked so far those in `expired` were EXP, the others UNL
+abbrev pub oldLmode : Bool → Lmode
+oldLmode wasExp = cond wasExp Exp Unl
+
 abbrev pub oldLmodes : ℕ → NodeSet → List Lmode
-oldLmodes x expired = listOf x (λ i. cond (has (expired .has) (suc i)) Exp Unl)
+oldLmodes x expired = listOf x (λ i. oldLmode (has (expired .has) (suc i)))
 
 abbrev pub rebuildOf : Phase → NodeSet → NodeSet → Client.Rebuild
 rebuildOf Phase.NoRebuild expired set = Client.NoRebuild

@@ -15,9 +15,9 @@ use Rattle.machine.specs.Rebuild.{restored}
 use Rattle.records.specs.declared.Lmode.{Lmode}
 use Rattle.records.specs.declared.Lmode.the-variants.{Unl}
 use Rattle.records.specs.Node.{Node, failedNode, givenBack}
-use Rattle.records.specs.View.{nodeOf}
+use Rattle.records.specs.View.{nodeOf, oldLmode, oldLmodes}
 use Rattle.stripe.specs.declared.nodes.Nodes.{Nodes}
-use Rattle.stripe.specs.View.{blankRecord, recordAt, nodesOf, oldLmode, oldLmodes}
+use Rattle.stripe.specs.View.{blankRecord, recordAt, nodesOf}
 use Rattle.stripe.proofs.Loops.{Stored}
 use Rattle.stripe.proofs.NodeLists.{nodes-count}
 
@@ -89,19 +89,19 @@ restored-rest c (o ∷ old) (x ∷ l) (suc p) h = restored-rest c old l p (omega
 module _ (c : ℕ) (s : NodeSet) (count : ℕ) (x r : Nodes) (i : ℕ)
     (q : Stored nodeOf blankRecord (λ p. givenBack c (oldLmode (has s (suc p))) (nodeOf (recordAt x p))) (x .items) (r .items) 0 i count)
     (h : count ≤ i) (n : ℕ) where
-  old-count : length (oldLmodes count s) ≡ count
+  old-count : length (oldLmodes count (record { has = s })) ≡ count
   old-count = length-listOf count (λ p. oldLmode (has s (suc p)))
 
-  pub restored-all : nodesOf n r ≡ restored c (oldLmodes count s) (nodesOf n x)
+  pub restored-all : nodesOf n r ≡ restored c (oldLmodes count (record { has = s })) (nodesOf n x)
   restored-all =
-      nodes-are n r (restored c (oldLmodes count s) (nodesOf n x)) (restored-length c (oldLmodes count s) (nodesOf n x) ∙ nodes-count n x)
+      nodes-are n r (restored c (oldLmodes count (record { has = s })) (nodesOf n x)) (restored-length c (oldLmodes count (record { has = s })) (nodesOf n x) ∙ nodes-count n x)
       (λ p b. by p b (decLt p count))
     where
-      by : (p : ℕ) → p < n → Dec (p < count) → nodeOf (recordAt r p) ≡ getD (restored c (oldLmodes count s) (nodesOf n x)) p failedNode
+      by : (p : ℕ) → p < n → Dec (p < count) → nodeOf (recordAt r p) ≡ getD (restored c (oldLmodes count (record { has = s })) (nodesOf n x)) p failedNode
       by p b (yes l) =
           q .done p (omega arith) (omega arith)
-          ∙ sym (restored-locked c (oldLmodes count s) (nodesOf n x) p (rw old-count l) (rw (nodes-count n x) b)
+          ∙ sym (restored-locked c (oldLmodes count (record { has = s })) (nodesOf n x) p (rw old-count l) (rw (nodes-count n x) b)
           ∙ rw (getD-listOf count (λ p. oldLmode (has s (suc p))) p Unl l, node-there n x p b))
       by p b (no m) =
           ap nodeOf (q .others p (λ l. omega arith))
-          ∙ sym (restored-rest c (oldLmodes count s) (nodesOf n x) p (rw old-count (omega arith)) ∙ node-there n x p b)
+          ∙ sym (restored-rest c (oldLmodes count (record { has = s })) (nodesOf n x) p (rw old-count (omega arith)) ∙ node-there n x p b)

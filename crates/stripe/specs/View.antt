@@ -1,14 +1,11 @@
 -- How the records of the code are seen as those of the machine. Assumes nothing.
-use mathlib.Core.Bool.{Bool, cond}
 use mathlib.Core.List.{List, []}
 use Prim.Native.Nat.{ℕ, suc, _≤_, _<_}
 use lib.ListN.{getD}
 use Rattle.blocks.specs.Blocks.{listOf}
-use Rattle.code.specs.Decode.{NodeSet, has}
 use Rattle.records.specs.declared.NodeRecord.{NodeRecord}
 use Rattle.records.specs.declared.Opmode.the-variants.{Norm}
-use Rattle.records.specs.declared.Lmode.{Lmode}
-use Rattle.records.specs.declared.Lmode.the-variants.{Unl, Exp}
+use Rattle.records.specs.declared.Lmode.the-variants.{Unl}
 use Rattle.records.specs.declared.Holder.the-variants.{Nobody}
 use Rattle.records.specs.Node.{Node}
 use Rattle.records.specs.declared.WriteId.{WriteId}
@@ -43,10 +40,3 @@ pub record Counted (n : ℕ) (x : Nodes) : Type 0 where
 -- a node's recent ids
 abbrev pub recentOf : RecentIds → List WriteId
 recentOf s = listOf (s .count) (λ i. getD (s .items) i blankId)
-
--- the old lmodes of the nodes locked so far, 1 to count
-abbrev pub oldLmode : Bool → Lmode
-oldLmode wasExp = cond wasExp Exp Unl
-
-abbrev pub oldLmodes : ℕ → NodeSet → List Lmode
-oldLmodes count wasExp = listOf count (λ i. oldLmode (has wasExp (suc i)))

@@ -6,9 +6,9 @@ ghost use Prim.Native.Nat.{ℕ, _+_, _<_, _≤_, max};
 ghost use Rattle.machine.specs.Stripe.{nodeAt, setAt, everyOf, someOf};
 ghost use Rattle.machine.specs.Rebuild.{restored, someRecons, countInit, largestEpoch, weakened};
 ghost use Rattle.records.specs.Node.{isInit, heldBy, heldAtL1, expiredFor, nodeWithin};
-ghost use Rattle.records.specs.View.{nodeOf};
+ghost use Rattle.records.specs.View.{nodeOf, oldLmode, oldLmodes};
 ghost use Rattle.stripe.specs.Nodes.{passes, Readable, changed, changedAfter};
-ghost use Rattle.stripe.specs.View.{recordAt, nodesOf, oldLmode, oldLmodes};
+ghost use Rattle.stripe.specs.View.{recordAt, nodesOf};
 use code::NodeSet;
 use records::Epoch;
 use records::Lmode;
@@ -209,7 +209,7 @@ impl Nodes {
     // Of nodes 1 to count, those that c still holds get their old lmode: EXP if in was_exp, else UNL.
     pub fn restore(mut self, count: usize, c: u8, was_exp: NodeSet) -> Self
         requires { ⌜ count ≤ 18 ⌝ }
-        ensures { λ r. ⌜ ((n : ℕ) → nodesOf n r ≡ restored c (oldLmodes count («was_exp» .has)) (nodesOf n self)) ⌝ }
+        ensures { λ r. ⌜ ((n : ℕ) → nodesOf n r ≡ restored c (oldLmodes count «was_exp») (nodesOf n self)) ⌝ }
     {
         let mut i = 0;
         while i < count {

@@ -4,8 +4,8 @@ use native.Mathlib.Omega.{arith}
 use borrow.Author.Needs.{needs}
 use Rattle.code.specs.Decode.{has}
 use Rattle.records.specs.Node.{givenBack}
-use Rattle.records.specs.View.{nodeOf}
-use Rattle.stripe.specs.View.{blankRecord, recordAt, oldLmode}
+use Rattle.records.specs.View.{nodeOf, oldLmode}
+use Rattle.stripe.specs.View.{blankRecord, recordAt}
 use Rattle.stripe.proofs.Changes.{restored-all}
 use Rattle.stripe.proofs.Loops.{Stored, store-start, store-next, store-on}
 use Rattle.stripe.proofs.NodeLists.{eighteen}
