@@ -20,10 +20,10 @@ use Rattle.machine.specs.Rebuild as Rebuild
 use Rattle.machine.proofs.View.{put-back, put-whole-back}
 use Rattle.lines.specs.Reading.{clipNumber, clipValue, clip}
 
-clip-below : (x : ℕ) → x ≤ 1000 → clipNumber x ≡ x
+clip-below : (x : ℕ) → x ≤ 255 → clipNumber x ≡ x
 clip-below x h = omega arith
 
-clip-above : (x : ℕ) → 1000 < x → clipNumber x ≡ 1000
+clip-above : (x : ℕ) → 255 < x → clipNumber x ≡ 255
 clip-above x h = omega arith
 
 clip-value : (room : ℕ) (v : List ℕ) → length v ≤ room → clipValue room v ≡ v
@@ -44,14 +44,14 @@ unfolding elementAt
 element-past d l zero h = refl
 element-past d l (suc x) h = List·getD-eq-default l d (omega arith)
 
-element-clip : {A : Type 0} (d : A) (l : List A) (x : ℕ) → length l < 1000 → elementAt d l (clipNumber x) ≡ elementAt d l x
-element-clip d l x h = by (decLe x 1000)
+element-clip : {A : Type 0} (d : A) (l : List A) (x : ℕ) → length l < 255 → elementAt d l (clipNumber x) ≡ elementAt d l x
+element-clip d l x h = by (decLe x 255)
   where
-    by : Dec (x ≤ 1000) → elementAt d l (clipNumber x) ≡ elementAt d l x
+    by : Dec (x ≤ 255) → elementAt d l (clipNumber x) ≡ elementAt d l x
     by (yes b) = ap (elementAt d l) (clip-below x b)
     by (no b) =
-        let e : 1000 < x = omega arith in
-        ap (elementAt d l) (clip-above x e) ∙ element-past d l 1000 h ∙ sym (element-past d l x (omega arith))
+        let e : 255 < x = omega arith in
+        ap (elementAt d l) (clip-above x e) ∙ element-past d l 255 h ∙ sym (element-past d l x (omega arith))
 
 -- a number past the last is in no range
 and-false : (b : Bool) → (b && false) ≡ false
@@ -66,11 +66,11 @@ redundant-past z x h = rw (lt-leb x (z .n) h) (and-false (ltb (z .k) x))
 
 -- a table of records that is far smaller than the clip
 pub record Small (z : Sizes) (s : Stripe) : Type 0 where
-  pub positions : z .k < 1000
-  pub nodes : z .n < 1000
-  pub clients : z .m < 1000
-  pub node-records : length (s .nodes) < 1000
-  pub client-records : length (s .clients) < 1000
+  pub positions : z .k < 255
+  pub nodes : z .n < 255
+  pub clients : z .m < 255
+  pub node-records : length (s .nodes) < 255
+  pub client-records : length (s .clients) < 255
 
 -- refused with 1 or 2
 unfoldable denied : {S : Type 0} → Bool → S → Outcome S
@@ -115,31 +115,31 @@ module _ (z : Sizes) (s : Stripe) where
     whole-clip c =
         λ i. record { nodes = s .nodes; client = element-clip freshClient (s .clients) c (small .client-records) i; blocks = s .blocks; spare = s .spare }
 
-    no-client : (c : ℕ) → 1000 ≤ c → isClient z c ≡ false
+    no-client : (c : ℕ) → 255 ≤ c → isClient z c ≡ false
     no-client c h = past 1 (z .m) c (omega (arith, small .clients))
 
-    no-node : (j : ℕ) → 1000 ≤ j → isNode z j ≡ false
+    no-node : (j : ℕ) → 255 ≤ j → isNode z j ≡ false
     no-node j h = past 1 (z .n) j (omega (arith, small .nodes))
 
-    no-position : (i : ℕ) → 1000 ≤ i → isPosition z i ≡ false
+    no-position : (i : ℕ) → 255 ≤ i → isPosition z i ≡ false
     no-position i h = past 1 (z .k) i (omega (arith, small .positions))
 
-    no-redundant : (j : ℕ) → 1000 ≤ j → isRedundant z j ≡ false
+    no-redundant : (j : ℕ) → 255 ≤ j → isRedundant z j ≡ false
     no-redundant j h = redundant-past z j (omega (arith, small .nodes))
 
     -- a call on the whole stripe
     on-clip : (call : ℕ → Whole → Outcome Whole) (test : Whole → Bool)
         → ((c : ℕ) (w : Whole) → isClient z c ≡ false → call c w ≡ denied (test w) w)
         → (c : ℕ) → onWhole (clipNumber c) (call (clipNumber c)) s ≡ onWhole c (call c) s
-    on-clip call test out c = by (decLe c 1000)
+    on-clip call test out c = by (decLe c 255)
       where
-        at : (c : ℕ) → 1000 ≤ c → onWhole c (call c) s ≡ denied (test (whole c s)) s
+        at : (c : ℕ) → 255 ≤ c → onWhole c (call c) s ≡ denied (test (whole c s)) s
         at c h = denied-on c (call c) (test (whole c s)) (out c (whole c s) (no-client c h))
 
-        by : Dec (c ≤ 1000) → onWhole (clipNumber c) (call (clipNumber c)) s ≡ onWhole c (call c) s
+        by : Dec (c ≤ 255) → onWhole (clipNumber c) (call (clipNumber c)) s ≡ onWhole c (call c) s
         by (yes b) = ap (λ x. onWhole x (call x) s) (clip-below c b)
         by (no b) =
-            let e : 1000 < c = omega arith in
+            let e : 255 < c = omega arith in
             at (clipNumber c) (omega (arith, clip-above c e)) ∙ ap (λ w. denied (test w) s) (whole-clip c) ∙ sym (at c (omega arith))
 
     -- a call at one node: the numbers are the same, or they are out of range
@@ -155,14 +155,14 @@ module _ (z : Sizes) (s : Stripe) where
     -- a call by a client and a node
     at-both : (call : ℕ → ℕ → Local → Outcome Local) (test : Local → Bool) (range : ℕ → Bool)
         → ((c j : ℕ) (l : Local) → (isClient z c && range j) ≡ false → call c j l ≡ denied (test l) l)
-        → ((j : ℕ) → 1000 ≤ j → range j ≡ false)
+        → ((j : ℕ) → 255 ≤ j → range j ≡ false)
         → (c j : ℕ) → onNode (clipNumber j) (clipNumber c) (call (clipNumber c) (clipNumber j)) s ≡ onNode j c (call c j) s
-    at-both call test range out far c j = by (decLe c 1000) (decLe j 1000)
+    at-both call test range out far c j = by (decLe c 255) (decLe j 255)
       where
-        no-c : (c j : ℕ) → 1000 ≤ c → (isClient z c && range j) ≡ false
+        no-c : (c j : ℕ) → 255 ≤ c → (isClient z c && range j) ≡ false
         no-c c j h = rw (no-client c h)
 
-        no-j : (c j : ℕ) → 1000 ≤ j → (isClient z c && range j) ≡ false
+        no-j : (c j : ℕ) → 255 ≤ j → (isClient z c && range j) ≡ false
         no-j c j h = rw (far j h) (and-false (isClient z c))
 
         both-out : (isClient z (clipNumber c) && range (clipNumber j)) ≡ false → (isClient z c && range j) ≡ false
@@ -170,26 +170,26 @@ module _ (z : Sizes) (s : Stripe) where
         both-out p q =
             at-out call test (λ c j. isClient z c && range j) out c j j (clipNumber c) (clipNumber j) (clipNumber j) (at-clip j c) p q
 
-        by : Dec (c ≤ 1000) → Dec (j ≤ 1000) → onNode (clipNumber j) (clipNumber c) (call (clipNumber c) (clipNumber j)) s ≡ onNode j c (call c j) s
+        by : Dec (c ≤ 255) → Dec (j ≤ 255) → onNode (clipNumber j) (clipNumber c) (call (clipNumber c) (clipNumber j)) s ≡ onNode j c (call c j) s
         by (yes a) (yes b) = rw (clip-below c a, clip-below j b)
         by (no a) b =
-            let e : 1000 < c = omega arith in
+            let e : 255 < c = omega arith in
             both-out (no-c (clipNumber c) (clipNumber j) (omega (arith, clip-above c e))) (no-c c j (omega arith))
         by (yes a) (no b) =
-            let e : 1000 < j = omega arith in
+            let e : 255 < j = omega arith in
             both-out (no-j (clipNumber c) (clipNumber j) (omega (arith, clip-above j e))) (no-j c j (omega arith))
 
     -- a call by a node alone
     at-node : (call : ℕ → Local → Outcome Local) (test : Local → Bool) (range : ℕ → Bool)
         → ((j : ℕ) (l : Local) → range j ≡ false → call j l ≡ denied (test l) l)
-        → ((j : ℕ) → 1000 ≤ j → range j ≡ false)
+        → ((j : ℕ) → 255 ≤ j → range j ≡ false)
         → (j : ℕ) → onNode (clipNumber j) 0 (call (clipNumber j)) s ≡ onNode j 0 (call j) s
-    at-node call test range out far j = by (decLe j 1000)
+    at-node call test range out far j = by (decLe j 255)
       where
-        by : Dec (j ≤ 1000) → onNode (clipNumber j) 0 (call (clipNumber j)) s ≡ onNode j 0 (call j) s
+        by : Dec (j ≤ 255) → onNode (clipNumber j) 0 (call (clipNumber j)) s ≡ onNode j 0 (call j) s
         by (yes b) = rw (clip-below j b)
         by (no b) =
-            let e : 1000 < j = omega arith in
+            let e : 255 < j = omega arith in
             at-out (λ c j. call j) test (λ c j. range j) (λ c j. out j) 0 j j 0 (clipNumber j) (clipNumber j) (at-clip j 0)
             (far (clipNumber j) (omega (arith, clip-above j e))) (far j (omega arith))
 
@@ -197,15 +197,15 @@ module _ (z : Sizes) (s : Stripe) where
     at-client : (node : Client → ℕ) (call : ℕ → Local → Outcome Local) (test : Local → Bool)
         → ((c : ℕ) (l : Local) → isClient z c ≡ false → call c l ≡ denied (test l) l)
         → (c : ℕ) → onNode (node (clientAt (s .clients) (clipNumber c))) (clipNumber c) (call (clipNumber c)) s ≡ onNode (node (clientAt (s .clients) c)) c (call c) s
-    at-client node call test out c = by (decLe c 1000)
+    at-client node call test out c = by (decLe c 255)
       where
         there : clientAt (s .clients) (clipNumber c) ≡ clientAt (s .clients) c
         there = element-clip freshClient (s .clients) c (small .client-records)
 
-        by : Dec (c ≤ 1000) → onNode (node (clientAt (s .clients) (clipNumber c))) (clipNumber c) (call (clipNumber c)) s ≡ onNode (node (clientAt (s .clients) c)) c (call c) s
+        by : Dec (c ≤ 255) → onNode (node (clientAt (s .clients) (clipNumber c))) (clipNumber c) (call (clipNumber c)) s ≡ onNode (node (clientAt (s .clients) c)) c (call c) s
         by (yes b) = rw (clip-below c b)
         by (no b) =
-            let e : 1000 < c = omega arith in
+            let e : 255 < c = omega arith in
             at-out (λ c j. call c) test (λ c j. isClient z c) (λ c j. out c) c 0 (node (clientAt (s .clients) c)) (clipNumber c) 0 (node (clientAt (s .clients) (clipNumber c)))
             (ap (λ x. record { node = nodeAt (s .nodes) (node x); client = x; blocks = s .blocks; differences = s .differences }) there)
             (no-client (clipNumber c) (omega (arith, clip-above c e))) (no-client c (omega arith))

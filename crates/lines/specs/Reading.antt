@@ -23,7 +23,7 @@ use Rattle.lines.specs.declared.reader.LineReader.the-variants as Reader
 
 -- every number above the limits is answered alike
 abbrev pub clipNumber : ℕ → ℕ
-clipNumber n = min n 1000
+clipNumber n = min n 255
 
 -- a value that the buffer has no room for: the bytes that fit, and a 0 for all that follow
 unfoldable pub clipValue : ℕ → List ℕ → List ℕ

@@ -9,31 +9,31 @@ ghost use Rattle.lines.specs.Reading.{Holds, Takes, Follows, Ends, callI
 
 const SPACE: u8 = b' ';
 
-// The call of a line, numbers clipped at 1,000; the last number of Swap and Fail counts the bytes of the value.
+// The call of a line, numbers clipped at 255; the last number of Swap and Fail counts the bytes of the value.
 pub enum Line {
     Unreadable,
-    Read(u32),
-    Swap(u32, u32, usize),
-    Add(u32, u32),
-    Check(u32, u32),
-    Drop(u32),
-    Sweep(u32),
-    Stop(u32),
-    Fail(u32, usize),
-    Lock(u32),
-    Pick(u32),
-    Weaken(u32),
-    Tighten(u32),
-    Write(u32),
-    Settle(u32),
-    Unlock(u32),
-    Quit(u32),
+    Read(u8),
+    Swap(u8, u8, usize),
+    Add(u8, u8),
+    Check(u8, u8),
+    Drop(u8),
+    Sweep(u8),
+    Stop(u8),
+    Fail(u8, usize),
+    Lock(u8),
+    Pick(u8),
+    Weaken(u8),
+    Tighten(u8),
+    Write(u8),
+    Settle(u8),
+    Unlock(u8),
+    Quit(u8),
 }
 
 // The field of a number, so far.
 pub enum Number {
     Empty,
-    Digits(u32),
+    Digits(u8),
     Bad,
 }
 
@@ -46,8 +46,8 @@ pub enum Hex {
 
 // The call whose value is read.
 pub enum Target {
-    Fail(u32),
-    Swap(u32, u32),
+    Fail(u8),
+    Swap(u8, u8),
 }
 
 // A line so far, by the field that it has come to, with the letter, the numbers before, and how many bytes of the value there are.
@@ -56,7 +56,7 @@ pub enum LineReader {
     Start,
     Letter(u8),
     First(u8, Number),
-    Second(u8, u32, Number),
+    Second(u8, u8, Number),
     Value(Target, Hex, usize),
 }
 
@@ -121,7 +121,7 @@ impl LineReader {
 }
 
 // The calls by their letters: of a number, of two, of a value.
-fn with_one(letter: u8, c: u32) -> Line
+fn with_one(letter: u8, c: u8) -> Line
     ensures { λ r. ⌜ ((value : List ℕ) → callIn r value ≡ withOne letter (some c)) ⌝ }
 {
     match letter {
@@ -141,7 +141,7 @@ fn with_one(letter: u8, c: u32) -> Line
     }
 }
 
-fn with_two(letter: u8, c: u32, j: u32) -> Line
+fn with_two(letter: u8, c: u8, j: u8) -> Line
     ensures { λ r. ⌜ ((value : List ℕ) → callIn r value ≡ withTwo letter (some c) (some j)) ⌝ }
 {
     match letter {
@@ -182,15 +182,12 @@ fn extended(number: Number, byte: u8) -> Number
 }
 
 // The number with one digit more, clipped.
-fn grown(n: u32, digit: u8) -> u32
+fn grown(n: u8, digit: u8) -> u8
     requires { ⌜ isDigit digit ≡ true ⌝ }
     ensures { λ r. ⌜ r ≡ clipNumber (n * 10 + (digit - 48)) ⌝ }
 {
-    if n < 100 {
-        n * 10 + (digit - b'0') as u32
-    } else {
-        1000
-    }
+    let next = n as u32 * 10 + (digit - b'0') as u32;
+    if next < 255 { next as u8 } else { 255 }
 }
 
 fn first_step(letter: u8, first: Number, byte: u8) -> LineReader
@@ -212,7 +209,7 @@ fn first_step(letter: u8, first: Number, byte: u8) -> LineReader
     }
 }
 
-fn second_step(letter: u8, first: u32, second: Number, byte: u8) -> LineReader
+fn second_step(letter: u8, first: u8, second: Number, byte: u8) -> LineReader
     ensures { λ r. ⌜ ((value : List ℕ) → Follows (LineReader.Second letter first second) value byte r value) ⌝ }
 {
     if byte != SPACE {
