@@ -1,0 +1,6 @@
+pub mod Checking
+pub mod Limits
+pub mod NodeAnswers
+pub mod Returns
+pub mod Swapping
+pub mod Within
