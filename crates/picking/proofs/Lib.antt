@@ -1,0 +1,3 @@
+pub mod PickedSets
+pub mod Picking
+pub mod Tabled

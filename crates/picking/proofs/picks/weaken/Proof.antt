@@ -1,0 +1,54 @@
+-- The tests, in order; then the weaken in its phase. Assumes nothing.
+use mathlib.Core.Path.{sym, _∙_}
+use borrow.Author.Needs.{needs}
+use Rattle.machine.specs.Rebuild.{weaken}
+use Rattle.records.specs.View.{clientOf}
+use Rattle.rebuild.specs.Contracts.{seen}
+use Rattle.rebuild.proofs.Admission.{admitted}
+use Rattle.picking.proofs.Picking.{weaken-out}
+use Rattle.rebuild.proofs.Played.{plays-refused, plays-turned, plays-on}
+use Rattle.picking.proofs.picks.weaken.Statement.{statement}
+use Rattle.picking.proofs.picks.weaken.Tie as tie
+
+weaken-now-requires : tie.Need-weaken-now-requires
+weaken-now-requires c κs =
+    let asked = c .before in
+    let told = asked .before in
+    (admitted (told .before .before .entrance .ensures) (told .enum-told .given .1), sym (asked .is-picking .ensures) ∙ c .if1 .taken)
+
+returns : tie.Need-returns
+unfolding weaken
+returns c blocks spare = plays-turned (c .before .before .before .before .entrance .ensures) _ (c .before .before .why .given .1) (c .refused .ensures)
+
+returns-2 : tie.Need-returns-2
+unfolding weaken
+returns-2 c blocks spare =
+    let told = c .before .before .before in
+    plays-on (told .before .before .entrance .ensures) (told .enum-told .given .1) (c .weaken-now .ensures blocks spare)
+
+returns-3 : tie.Need-returns-3
+unfolding weaken
+returns-3 c blocks spare =
+    let left = c .before in
+    let told = left .before .before in
+    let entered = told .before .before in
+    let a = entered .before .args in
+    plays-on (entered .entrance .ensures) (told .enum-told .given .1)
+    (plays-refused (a .z) (c .refused2 .ensures)
+    (weaken-out (a .z) (a .c) (seen (a .z) (a .nodes) (a .client) blocks spare) (clientOf (a .client) .rebuild)
+    (sym (left .before .is-picking .ensures) ∙ left .if1 .left)))
+
+pub weaken-spec : {M : Type 1} → statement M
+weaken-spec =
+    tie.close
+    (tie.spec
+    (λ c κs. search needs)
+    (λ c. search needs)
+    (λ c κs. search needs)
+    (λ c. search needs)
+    (λ c κs. search needs)
+    weaken-now-requires
+    (λ c κs. search needs)
+    returns
+    returns-2
+    returns-3)
