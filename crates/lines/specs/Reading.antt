@@ -7,6 +7,7 @@ use Prim.Native.Nat.{ℕ, zero, suc, _+_, _-_, _*_, min}
 use lib.Dec.{eqb, ltb}
 use lib.ListN.{length, take}
 use Rattle.machine.specs.Calls.{Call, Read, Swap, Add, Check, Drop, Sweep, Stop, Fail, Lock, Pick, Weaken, Tighten, Write, Settle, Unlock, Quit}
+use Rattle.calls.specs.Calls.{callOf}
 use Rattle.lines.specs.Lines.{onto, fields, isDigit, hexDigit, both, bytesOf, withOne, withTwo, withValue, withThree, lineOf, call}
 use Rattle.lines.specs.declared.reader.Line.{Line}
 use Rattle.lines.specs.declared.reader.Line.the-variants as Lines
@@ -59,22 +60,7 @@ kept count value = take count (value ++ 0 ∷ [])
 -- the call that a Line and the buffer stand for
 abbrev pub callIn : Line → List ℕ → Option Call
 callIn Lines.Unreadable value = none
-callIn (Lines.Read i) value = some (Read i)
-callIn (Lines.Swap c i count) value = some (Swap c i (kept count value))
-callIn (Lines.Add c j) value = some (Add c j)
-callIn (Lines.Check c j) value = some (Check c j)
-callIn (Lines.Drop c) value = some (Drop c)
-callIn (Lines.Sweep c) value = some (Sweep c)
-callIn (Lines.Stop c) value = some (Stop c)
-callIn (Lines.Fail j count) value = some (Fail j (kept count value))
-callIn (Lines.Lock c) value = some (Lock c)
-callIn (Lines.Pick c) value = some (Pick c)
-callIn (Lines.Weaken c) value = some (Weaken c)
-callIn (Lines.Tighten c) value = some (Tighten c)
-callIn (Lines.Write c) value = some (Write c)
-callIn (Lines.Settle c) value = some (Settle c)
-callIn (Lines.Unlock c) value = some (Unlock c)
-callIn (Lines.Quit c) value = some (Quit c)
+callIn (Lines.Play call count) value = some (callOf call (kept count value))
 
 ---- a line read in part: the clipped call that it becomes, by what follows
 

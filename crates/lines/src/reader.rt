@@ -6,9 +6,11 @@ ghost use mathlib.Core.Bool.{true};
 ghost use Prim.Native.Nat.{ℕ, _+_, _-_, _*_};
 ghost use Rattle.lines.specs.Lines.{isDigit, withOne, withTwo};
 ghost use Rattle.lines.specs.Reading.{Holds, Takes, Follows, Ends, callIn, kept, withTarget, Stored, HexByte, HexDigit, clipNumber, numberFrom};
+use calls::Call;
 
 const SPACE: u8 = b' ';
 
+<<<<<<< HEAD
 // The call of a line, numbers clipped at 255; the last number of Swap and Fail counts the bytes of the value.
 pub enum Line {
     Unreadable,
@@ -28,6 +30,12 @@ pub enum Line {
     Settle(u8),
     Unlock(u8),
     Quit(u8),
+=======
+// The call of a line, numbers clipped at 255; beside a swap or a failure the count of the value's bytes, else 0.
+pub enum Line {
+    Unreadable,
+    Play(Call, usize),
+>>>>>>> player
 }
 
 // The field of a number, so far.
@@ -125,18 +133,18 @@ fn with_one(letter: u8, c: u8) -> Line
     ensures { λ r. ⌜ ((value : List ℕ) → callIn r value ≡ withOne letter (some c)) ⌝ }
 {
     match letter {
-        b'D' => Line::Drop(c),
-        b'G' => Line::Sweep(c),
-        b'R' => Line::Read(c),
-        b'L' => Line::Lock(c),
-        b'P' => Line::Pick(c),
-        b'O' => Line::Weaken(c),
-        b'I' => Line::Tighten(c),
-        b'W' => Line::Write(c),
-        b'T' => Line::Settle(c),
-        b'U' => Line::Unlock(c),
-        b'Q' => Line::Quit(c),
-        b'C' => Line::Stop(c),
+        b'D' => Line::Play(Call::Drop(c), 0),
+        b'G' => Line::Play(Call::Sweep(c), 0),
+        b'R' => Line::Play(Call::Read(c), 0),
+        b'L' => Line::Play(Call::Lock(c), 0),
+        b'P' => Line::Play(Call::Pick(c), 0),
+        b'O' => Line::Play(Call::Weaken(c), 0),
+        b'I' => Line::Play(Call::Tighten(c), 0),
+        b'W' => Line::Play(Call::Write(c), 0),
+        b'T' => Line::Play(Call::Settle(c), 0),
+        b'U' => Line::Play(Call::Unlock(c), 0),
+        b'Q' => Line::Play(Call::Quit(c), 0),
+        b'C' => Line::Play(Call::Stop(c), 0),
         _ => Line::Unreadable,
     }
 }
@@ -145,8 +153,8 @@ fn with_two(letter: u8, c: u8, j: u8) -> Line
     ensures { λ r. ⌜ ((value : List ℕ) → callIn r value ≡ withTwo letter (some c) (some j)) ⌝ }
 {
     match letter {
-        b'A' => Line::Add(c, j),
-        b'H' => Line::Check(c, j),
+        b'A' => Line::Play(Call::Add(c, j), 0),
+        b'H' => Line::Play(Call::Check(c, j), 0),
         _ => Line::Unreadable,
     }
 }
@@ -155,8 +163,8 @@ fn with_value(target: Target, count: usize) -> Line
     ensures { λ r. ⌜ ((value : List ℕ) → callIn r value ≡ withTarget target (some (kept count value))) ⌝ }
 {
     match target {
-        Target::Fail(j) => Line::Fail(j, count),
-        Target::Swap(c, i) => Line::Swap(c, i, count),
+        Target::Fail(j) => Line::Play(Call::Fail(j), count),
+        Target::Swap(c, i) => Line::Play(Call::Swap(c, i), count),
     }
 }
 
