@@ -10,32 +10,10 @@ use calls::Call;
 
 const SPACE: u8 = b' ';
 
-<<<<<<< HEAD
-// The call of a line, numbers clipped at 255; the last number of Swap and Fail counts the bytes of the value.
-pub enum Line {
-    Unreadable,
-    Read(u8),
-    Swap(u8, u8, usize),
-    Add(u8, u8),
-    Check(u8, u8),
-    Drop(u8),
-    Sweep(u8),
-    Stop(u8),
-    Fail(u8, usize),
-    Lock(u8),
-    Pick(u8),
-    Weaken(u8),
-    Tighten(u8),
-    Write(u8),
-    Settle(u8),
-    Unlock(u8),
-    Quit(u8),
-=======
 // The call of a line, numbers clipped at 255; beside a swap or a failure the count of the value's bytes, else 0.
 pub enum Line {
     Unreadable,
     Play(Call, usize),
->>>>>>> player
 }
 
 // The field of a number, so far.

@@ -1,0 +1,17 @@
+-- By the test. Assumes nothing.
+use borrow.Author.Needs.{needs}
+use Rattle.records.proofs.Tests.{tests}
+use Rattle.player.proofs.at_node.sweep_node.Statement.{statement}
+use Rattle.player.proofs.at_node.sweep_node.Tie as tie
+
+pub sweep-node-spec : {M : Type 1} → statement M
+sweep-node-spec =
+    tie.close
+    (tie.spec
+    (λ c. search needs)
+    (λ c. search needs)
+    (λ c. search needs)
+    (λ c. search needs)
+    (λ c. search needs)
+    (λ c. search tests)
+    (λ c. search tests))

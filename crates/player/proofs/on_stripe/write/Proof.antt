@@ -1,0 +1,32 @@
+-- All nodes and the client taken out, a block written, and put back. Assumes nothing.
+use mathlib.Core.Path.{refl, ap}
+use borrow.Author.Needs.{needs}
+use Rattle.machine.specs.Calls.{step}
+use Rattle.machine.specs.Rebuild as Rebuild
+use Rattle.stripe.specs.View.{nodesOf}
+use Rattle.writing.proofs.Limits.{clients-few}
+use Rattle.player.specs.View.{clientsOf}
+use Rattle.player.proofs.Plays.{played-on}
+use Rattle.player.proofs.on_stripe.write.Statement.{statement}
+use Rattle.player.proofs.on_stripe.write.Tie as tie
+
+returns : tie.Need-returns
+unfolding step
+returns c =
+    let at-write = c .before .before .before in
+    let at-get = at-write .before .before in
+    let start = at-get .before .before .before .before .before in
+    let args = start .args in
+    λ differences.
+    played-on (nodesOf (args .z .n) (args .stripe .nodes)) (clientsOf (args .z .m) (args .stripe .clients)) (args .c) (Rebuild.write (args .z) (args .c))
+    (at-get .get .ensures) (at-write .write .ensures) (c .put .ensures .0) (ap (nodesOf (args .z .n)) (c .put .ensures .1 .0)) (c .put .ensures .1 .1)
+
+pub write-spec : {M : Type 1} → statement M
+write-spec =
+    tie.close
+    (tie.spec
+    (λ c κs. clients-few _ (c .before .before .before .before .pre))
+    (λ c κs. search needs)
+    (λ c κs. clients-few _ (c .before .before .before .before .before .before .before .before .before .pre))
+    (λ c. search needs)
+    returns)
