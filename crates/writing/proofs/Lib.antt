@@ -1,4 +1,6 @@
+pub mod Adding
 pub mod Checking
+pub mod Completing
 pub mod Limits
 pub mod NodeAnswers
 pub mod Returns

@@ -20,11 +20,11 @@ stepped m q = rw q at (m .left)
 
 module _ (l : Local) (rest : Outcome Local) where
   -- the node refuses, or the rest decides
-  abbrev seen : NodeAnswer → Outcome Local
+  abbrev pub seen : NodeAnswer → Outcome Local
   seen Accepted = rest
   seen (Refused why) = refused why l
 
-  seen-test : (t : Bool) (why : Refusal) (a : NodeAnswer) → seen (refusing t why a) ≡ guard t why l (seen a)
+  pub seen-test : (t : Bool) (why : Refusal) (a : NodeAnswer) → seen (refusing t why a) ≡ guard t why l (seen a)
   unfolding guard
   seen-test true why a = refl
   seen-test false why a = refl

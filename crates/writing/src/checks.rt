@@ -8,8 +8,8 @@ ghost use Rattle.machine.specs.Writing;
 ghost use Rattle.records.specs.Node.{Node};
 ghost use Rattle.records.specs.Sizes.{isNode, isClient};
 ghost use Rattle.records.specs.View.{nodeOf, clientOf};
-use crate::lent::are_records_within;
 use crate::lent::is_client_within;
+use crate::lent::is_within;
 use answers::Answer;
 use answers::OfClient;
 use records::CheckAnswer;
@@ -59,7 +59,7 @@ pub fn check(z: Sizes, c: u8, j: u8, node: NodeRecord, client: ClientRecord) -> 
         Meets (Writing.check z c j (local (nodeOf node) (clientOf client) blocks differences))
         (r .answer) [] (local (nodeOf node) (clientOf (r .client)) blocks differences) (r .client ≡ client)) ⌝ }
 {
-    if !are_records_within(z, node, client) {
+    if !is_within(z, node, client) {
         return OfClient::refused(client, Refusal::OutOfLimits);
     }
     if !is_in_range(z, c, j) {

@@ -13,7 +13,7 @@ ghost use Rattle.records.specs.NodeSteps.{sweepAnswer};
 ghost use Rattle.records.specs.Sizes.{sizesWithin};
 ghost use Rattle.records.specs.View.{nodeOf, clientOf};
 ghost use Rattle.writing.specs.Sweeping.{sweepNode};
-use crate::lent::are_records_within;
+use crate::lent::is_within;
 use answers::Answer;
 use answers::AtNode;
 use records::ClientRecord;
@@ -69,7 +69,7 @@ pub fn sweep(z: Sizes, c: u8, node: NodeRecord, client: ClientRecord) -> AtNode
         (r .answer) [] (local (nodeOf (r .node)) (clientOf (r .client)) blocks differences)
         ((r .node ≡ node) × (r .client ≡ client))) ⌝ }
 {
-    if !are_records_within(z, node, client) {
+    if !is_within(z, node, client) {
         return AtNode::refused(node, client, Refusal::OutOfLimits);
     }
     if !z.is_client(c) {

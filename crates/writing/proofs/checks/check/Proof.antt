@@ -25,7 +25,7 @@ check-write-requires c κs =
     let at-limits = at-range .before .before in
     let args = at-limits .before .before .args in
     let z = args .z in
-    let known = lent z (args .node) (args .client) (holds (at-limits .before .are-records-within .ensures) (at-limits .if1 .left)) in
+    let known = lent z (args .node) (args .client) (holds (at-limits .before .is-within .ensures) (at-limits .if1 .left)) in
     let node = and-right (isClient z (args .c)) _ (holds (at-range .before .is-in-range .ensures) (at-range .if2 .left)) in
     (c .before .hand .given .1, range-low (z .n) (args .j) node, omega (arith, range-high (z .n) (args .j) node), known .entries)
 

@@ -1,5 +1,4 @@
 -- The tests, in order. Assumes nothing.
-use mathlib.Core.Path.{sym, _∙_}
 use borrow.Author.Needs.{needs}
 use Rattle.records.proofs.Tests.{tests}
 use Rattle.writing.proofs.lent.are_records_within.Statement.{statement}
@@ -7,11 +6,4 @@ use Rattle.writing.proofs.lent.are_records_within.Tie as tie
 
 pub are-records-within-spec : {M : Type 1} → statement M
 are-records-within-spec =
-    tie.close
-    (tie.spec
-    (λ c κs. search needs)
-    (λ c κs. search needs)
-    (λ c κs. sym (c .before .before .before .within .ensures) ∙ c .before .before .if1 .taken)
-    (λ c. search tests)
-    (λ c. search tests)
-    (λ c. search tests))
+    tie.close (tie.spec (λ c κs. search needs) (λ c κs. search needs) (λ c. search tests) (λ c. search tests))

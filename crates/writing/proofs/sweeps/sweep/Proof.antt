@@ -20,5 +20,5 @@ sweep-spec =
     (λ c κs. search needs)
     (λ c κs. search needs)
     (λ c blocks differences. refused-at-node (c .refused3 .ensures) (search guards))
-    (λ c κs. let at-limits = c .before .before .before .before in holds (at-limits .before .are-records-within .ensures) (at-limits .if1 .left))
+    (λ c κs. let at-limits = c .before .before .before .before in holds (at-limits .before .is-within .ensures) (at-limits .if1 .left))
     (λ c blocks differences. meets-as (c .sweep-node .ensures blocks differences) (search guards)))

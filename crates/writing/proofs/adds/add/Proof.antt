@@ -1,0 +1,64 @@
+-- The tests, in order; then as the write in hand is added. Assumes nothing.
+use borrow.Author.Needs.{needs}
+use Rattle.records.specs.View.{nodeOf, clientOf}
+use Rattle.machine.specs.Writing as Writing
+use Rattle.answers.specs.Answers.{local}
+use Rattle.writing.proofs.Adding.{add-empty}
+use Rattle.writing.proofs.Returns.{guards, holds, refused-at-node}
+use Rattle.writing.proofs.Within.{ready, meets-as}
+use Rattle.writing.proofs.adds.add.Statement.{statement}
+use Rattle.writing.proofs.adds.add.Tie as tie
+
+returns : tie.Need-returns
+unfolding Writing.add
+returns c = refused-at-node (c .refused .ensures) (search (guards, c .before .before .is-within .ensures, c .before .if1 .taken))
+
+returns-2 : tie.Need-returns-2
+unfolding Writing.add
+returns-2 c =
+    let at-limits = c .before .before .before in
+    refused-at-node (c .refused2 .ensures) (search (guards, at-limits .before .is-within .ensures, at-limits .if1 .left, c .before .before .is-in-range .ensures, c .before .if2 .taken))
+
+add-write-requires : tie.Need-add-write-requires
+add-write-requires c κs =
+    let at-hand = c .before .before in
+    let at-range = at-hand .before .before in
+    let at-limits = at-range .before .before in
+    let a = at-limits .before .before .before .before .args in
+    ready (a .z) (a .c) (a .j) _ (a .node) (a .client) (a .blocks .now) (a .differences .now) (at-hand .hand .given .1)
+    (holds (at-limits .before .is-within .ensures) (at-limits .if1 .left)) (holds (at-range .before .is-in-range .ensures) (at-range .if2 .left))
+
+returns-3 : tie.Need-returns-3
+unfolding Writing.add
+returns-3 c =
+    let at-range = c .before .before .before in
+    let at-limits = at-range .before .before in
+    refused-at-node (c .refused3 .ensures)
+    (search (guards, add-empty, c .before .enum-told .given .1, at-limits .before .is-within .ensures, at-limits .if1 .left, at-range .before .is-in-range .ensures, at-range .if2 .left))
+
+returns-4 : tie.Need-returns-4
+unfolding Writing.add
+returns-4 c =
+    let at-add = c .before .before in
+    let at-range = at-add .before .before .before .before .before in
+    let at-limits = at-range .before .before in
+    meets-as (at-add .add-write .ensures)
+    (search (guards, at-limits .before .is-within .ensures, at-limits .if1 .left, at-range .before .is-in-range .ensures, at-range .if2 .left))
+
+pub add-spec : {M : Type 1} → statement M
+add-spec =
+    tie.close
+    (tie.spec
+    (λ c κs. search needs)
+    (λ c κs. search needs)
+    returns
+    (λ c κs. search needs)
+    (λ c κs. search needs)
+    returns-2
+    (λ c. search needs)
+    (λ c κs. search needs)
+    (λ c. search needs)
+    add-write-requires
+    returns-3
+    (λ c. search needs)
+    returns-4)
