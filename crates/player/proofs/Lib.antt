@@ -1,3 +1,3 @@
 pub mod Items
 pub mod Records
-pub mod Plays
+pub mod Steps

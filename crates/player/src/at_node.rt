@@ -9,7 +9,7 @@ ghost use Rattle.records.specs.Sizes.{sizesWithin};
 ghost use Rattle.records.specs.View.{clientOf, nodeOf};
 ghost use Rattle.stripe.specs.View.{nodesOf};
 ghost use Rattle.player.specs.View.{clientsOf, stripeOf};
-ghost use Rattle.player.specs.Plays.{Says, playing};
+ghost use Rattle.player.specs.Steps.{Says, playing};
 use crate::Played;
 use crate::Stripe;
 use crate::nodes;
@@ -93,6 +93,20 @@ pub fn swap(
     let client = clients.get(z.m, c);
     let r = writing::swap(z, c, i, value, node, client, blocks, differences);
     put(z, c, i, stripe, r)
+}
+
+pub fn add(z: Sizes, c: u8, j: u8, stripe: Stripe, blocks: &mut [u8], differences: &[u8]) -> Played
+    requires { ⌜ sizesWithin z ≡ true ⌝ }
+    ensures { λ r. ⌜ ((spare : List ℕ) →
+        Says (playing z (Call.Add c j) [] [] (stripeOf z stripe (now (blocks .entry)) spare (now (differences .entry))))
+        (r .answer) [] (stripeOf z (r .stripe) (now (blocks .exit)) spare (now (differences .entry)))) ⌝ }
+{
+    let nodes = stripe.nodes;
+    let clients = stripe.clients;
+    let node = nodes::get(nodes, z.n, j);
+    let client = clients.get(z.m, c);
+    let r = writing::add(z, c, j, node, client, blocks, differences);
+    put(z, c, j, stripe, r)
 }
 
 // The node of the round's next sweep.

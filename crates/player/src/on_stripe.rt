@@ -9,7 +9,7 @@ ghost use Rattle.records.specs.Sizes.{sizesWithin};
 ghost use Rattle.records.specs.View.{clientOf};
 ghost use Rattle.rebuild.specs.Contracts.{PlaysAlone};
 ghost use Rattle.player.specs.View.{clientsOf, stripeOf};
-ghost use Rattle.player.specs.Plays.{Says, aloneOf, aloneCall, playing};
+ghost use Rattle.player.specs.Steps.{Says, aloneOf, aloneCall, playing};
 use crate::Played;
 use crate::Stripe;
 use calls::Call;

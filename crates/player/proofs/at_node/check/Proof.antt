@@ -7,7 +7,7 @@ use Rattle.records.proofs.Limits.{nodes-few}
 use Rattle.stripe.specs.View.{nodesOf}
 use Rattle.writing.proofs.Limits.{clients-few}
 use Rattle.player.specs.View.{clientsOf}
-use Rattle.player.proofs.Plays.{played-at, node-same}
+use Rattle.player.proofs.Steps.{played-at, node-same}
 use Rattle.player.proofs.at_node.check.Statement.{statement}
 use Rattle.player.proofs.at_node.check.Tie as tie
 

@@ -7,7 +7,7 @@ use Rattle.machine.specs.Writing as Writing
 use Rattle.stripe.specs.View.{nodesOf}
 use Rattle.writing.proofs.Limits.{clients-few}
 use Rattle.player.specs.View.{clientsOf}
-use Rattle.player.proofs.Plays.{played-at, node-none}
+use Rattle.player.proofs.Steps.{played-at, node-none}
 use Rattle.player.proofs.at_node.drop.Statement.{statement}
 use Rattle.player.proofs.at_node.drop.Tie as tie
 

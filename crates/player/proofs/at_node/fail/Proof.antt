@@ -10,7 +10,7 @@ use Rattle.records.specs.Client.{Client, freshClient}
 use Rattle.records.proofs.Limits.{nodes-few}
 use Rattle.stripe.specs.View.{nodesOf}
 use Rattle.player.specs.View.{clientsOf}
-use Rattle.player.proofs.Plays.{played-at, client-none}
+use Rattle.player.proofs.Steps.{played-at, client-none}
 use Rattle.player.proofs.at_node.fail.Statement.{statement}
 use Rattle.player.proofs.at_node.fail.Tie as tie
 

@@ -12,7 +12,7 @@ use Rattle.records.proofs.Limits.{nodes-few}
 use Rattle.stripe.specs.View.{nodesOf}
 use Rattle.writing.specs.Reading.{readInto}
 use Rattle.player.specs.View.{clientsOf, stripeOf}
-use Rattle.player.proofs.Plays.{played-at, guarded-at, client-none, node-same}
+use Rattle.player.proofs.Steps.{played-at, guarded-at, client-none, node-same}
 use Rattle.player.proofs.at_node.read.Statement.{statement}
 use Rattle.player.proofs.at_node.read.Tie as tie
 

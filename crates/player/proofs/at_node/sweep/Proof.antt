@@ -11,7 +11,7 @@ use Rattle.records.proofs.Limits.{nodes-few}
 use Rattle.stripe.specs.View.{nodesOf}
 use Rattle.writing.proofs.Limits.{clients-few, code-sizes}
 use Rattle.player.specs.View.{clientsOf}
-use Rattle.player.proofs.Plays.{played-at}
+use Rattle.player.proofs.Steps.{played-at}
 use Rattle.player.proofs.at_node.sweep.Statement.{statement}
 use Rattle.player.proofs.at_node.sweep.Tie as tie
 

@@ -6,7 +6,7 @@ use Rattle.machine.specs.Rebuild as Rebuild
 use Rattle.stripe.specs.View.{nodesOf}
 use Rattle.writing.proofs.Limits.{clients-few}
 use Rattle.player.specs.View.{clientsOf}
-use Rattle.player.proofs.Plays.{played-on}
+use Rattle.player.proofs.Steps.{played-on}
 use Rattle.player.proofs.on_stripe.pick.Statement.{statement}
 use Rattle.player.proofs.on_stripe.pick.Tie as tie
 

@@ -4,8 +4,8 @@ use borrow.Author.Needs.{needs}
 use Rattle.stripe.specs.View.{nodesOf}
 use Rattle.writing.proofs.Limits.{clients-few}
 use Rattle.player.specs.View.{clientsOf, stripeOf}
-use Rattle.player.specs.Plays.{aloneCall}
-use Rattle.player.proofs.Plays.{played-on, alone-step}
+use Rattle.player.specs.Steps.{aloneCall}
+use Rattle.player.proofs.Steps.{played-on, alone-step}
 use Rattle.player.proofs.on_stripe.play_alone.Statement.{statement}
 use Rattle.player.proofs.on_stripe.play_alone.Tie as tie
 

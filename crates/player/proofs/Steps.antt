@@ -24,7 +24,7 @@ use Rattle.player.specs.declared.on_stripe.Alone.{Alone}
 use Rattle.player.specs.declared.on_stripe.Alone.the-variants as Alones
 use Rattle.calls.specs.declared.Call.{Call}
 use Rattle.calls.specs.declared.Call.the-variants as Call
-use Rattle.player.specs.Plays.{aloneOf, aloneCall, playing}
+use Rattle.player.specs.Steps.{aloneOf, aloneCall, playing}
 
 -- the records and the tables of a stripe
 abbrev stripe : List Node → List Client → List ℕ → List ℕ → List ℕ → Stripe
