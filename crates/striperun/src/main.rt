@@ -1,0 +1,24 @@
+// Plays a script on a stripe of any size, and prints everything after each call.
+mod clients; // clients.rt: the text of the client records
+mod input; // input.rt: the lines of standard input
+mod lists; // lists.rt: texts of sets, ids and entries
+mod nodes; // nodes.rt: the text of the node records
+mod output; // output.rt: standard output by way of a buffer
+mod script; // script.rt: the lines of a script, one after the other
+mod show; // show.rt: what is printed of a call
+mod sizes; // sizes.rt: the line of sizes
+
+use input::Input;
+
+fn main() {
+    let mut buffer = io::large_buffer();
+    let mut out = io::large_buffer();
+    let first = Input::new().sizes(&mut buffer);
+    let sizes = first.sizes;
+    let input = first.input;
+    if sizes.within() {
+        script::play_lines(sizes, input, &mut buffer, &mut out);
+    } else {
+        script::refuse_lines(input, &mut buffer, &mut out);
+    }
+}

@@ -1,0 +1,162 @@
+// What is printed of a call: `ANSWER RETURNED | STATE`.
+ghost use Prim.Native.Nat.{_≤_};
+ghost use Rattle.striperun.specs.Tables.{Tables};
+use super::clients::put_clients;
+use super::lists::put_id;
+use super::lists::put_set;
+use super::nodes::put_modes;
+use super::nodes::put_nodes;
+use super::output::put;
+use super::output::put_bytes;
+use super::output::put_number;
+use super::output::put_number_and;
+use super::output::put_text;
+use answers::Answer;
+use calls::Call;
+use lines::reader::Line;
+use player::Played;
+use player::Stripe;
+use records::ClientRecord;
+use records::Phase;
+use records::Refusal;
+use records::Sizes;
+
+// What was picked: the set, and E.
+fn put_picked(out: &mut [u8], mut at: usize, client: ClientRecord) -> usize {
+    let set = client.set;
+    let phase = client.phase;
+    let Phase::Writing(_, epoch) = phase else {
+        return put(out, at, b'-');
+    };
+    at = put_text(out, at, b"set=");
+    at = put_set(out, at, set);
+    at = put_text(out, at, b" E=");
+    put_number(out, at, epoch.0 as u64)
+}
+
+fn put_block_read(out: &mut [u8], at: usize, shown: &[u8]) -> usize {
+    let next = put_text(out, at, b"block=");
+    put_bytes(out, next, shown)
+}
+
+// What is returned with a refusal.
+fn put_refusal(out: &mut [u8], at: usize, why: Refusal) -> usize {
+    match why {
+        Refusal::WrongMode(opmode, lmode) => put_modes(out, at, opmode, lmode),
+        Refusal::OldEpoch(epoch) => put_number(out, at, epoch.0 as u64),
+        Refusal::BeforePrevious(id) => put_id(out, at, id),
+        Refusal::TooFew(size) => put_number(out, at, size as u64),
+        _ => put(out, at, b'-'),
+    }
+}
+
+// What is returned with the acceptance of a call that has no word of its own.
+fn put_accepted(out: &mut [u8], at: usize, m: usize, line: Line, stripe: Stripe) -> usize
+    requires { ⌜ m ≤ 8 ⌝ }
+{
+    let Line::Play(call, _) = line else {
+        return put(out, at, b'-');
+    };
+    let Call::Pick(c) = call else {
+        return put(out, at, b'-');
+    };
+    let clients = stripe.clients;
+    put_picked(out, at, clients.get(m, c))
+}
+
+fn put_returned(
+    out: &mut [u8],
+    at: usize,
+    m: usize,
+    line: Line,
+    answer: Answer,
+    stripe: Stripe,
+    shown: &[u8],
+) -> usize
+    requires { ⌜ m ≤ 8 ⌝ }
+{
+    match answer {
+        Answer::Accepted => put_accepted(out, at, m, line, stripe),
+        Answer::Shown => put_block_read(out, at, shown),
+        Answer::Added => put_text(out, at, b"Added"),
+        Answer::Done => put_text(out, at, b"Done"),
+        Answer::CheckInit => put_text(out, at, b"INIT"),
+        Answer::CheckGc => put_text(out, at, b"GC"),
+        Answer::NoChange => put_text(out, at, b"NoChange"),
+        Answer::Rebuilt => put_text(out, at, b"rebuilt"),
+        Answer::Refused(why) => put_refusal(out, at, why),
+    }
+}
+
+// `ANSWER RETURNED | `.
+fn put_answer(
+    out: &mut [u8],
+    mut at: usize,
+    m: usize,
+    line: Line,
+    answer: Answer,
+    stripe: Stripe,
+    shown: &[u8],
+) -> usize
+    requires { ⌜ m ≤ 8 ⌝ }
+{
+    at = put_number_and(out, at, answer.number() as u64, b' ');
+    at = put_returned(out, at, m, line, answer, stripe, shown);
+    put_text(out, at, b" | ")
+}
+
+// `NODES # CLIENTS`.
+fn put_records(out: &mut [u8], mut at: usize, z: Sizes, stripe: Stripe, blocks: &[u8]) -> usize
+    requires { ⌜ Tables z (now blocks) ⌝ }
+{
+    let nodes = stripe.nodes;
+    let clients = stripe.clients;
+    at = put_nodes(out, at, z, nodes, blocks);
+    at = put_text(out, at, b" # ");
+    put_clients(out, at, z.m, clients)
+}
+
+// ` # SPARE # DIFFERENCES`, and the line's end.
+fn put_tables(out: &mut [u8], mut at: usize, spare: &[u8], differences: &[u8]) -> usize {
+    at = put_text(out, at, b" # ");
+    at = put_bytes(out, at, spare);
+    at = put_text(out, at, b" # ");
+    at = put_bytes(out, at, differences);
+    put(out, at, b'\n')
+}
+
+// `NODES # CLIENTS # SPARE # DIFFERENCES`, and the line's end.
+fn put_state(
+    out: &mut [u8],
+    at: usize,
+    z: Sizes,
+    stripe: Stripe,
+    blocks: &[u8],
+    spare: &[u8],
+    differences: &[u8],
+) -> usize
+    requires { ⌜ Tables z (now blocks) ⌝ }
+{
+    let next = put_records(out, at, z, stripe, blocks);
+    put_tables(out, next, spare, differences)
+}
+
+// The line of a call.
+pub fn put_played(
+    out: &mut [u8],
+    at: usize,
+    z: Sizes,
+    line: Line,
+    played: Played,
+    blocks: &[u8],
+    spare: &[u8],
+    differences: &[u8],
+    shown: &[u8],
+) -> usize
+    requires { ⌜ Tables z (now blocks) ⌝ }
+{
+    let answer = played.answer;
+    let stripe = played.stripe;
+    let next = put_answer(out, at, z.m, line, answer, stripe, shown);
+    put_state(out, next, z, stripe, blocks, spare, differences)
+}

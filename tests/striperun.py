@@ -1,0 +1,172 @@
+"""Compares the program striperun with the second implementation, byte by byte.
+
+    striperun.py PROGRAM SEED
+
+Plays random lists of calls for each of the sizes below, lists with many
+damaged lines, and inputs that are odd as a whole. Prints how many calls of
+each kind were accepted, how often each answer was given and how many rebuilds
+were finished; stops at the first difference with an error exit.
+"""
+
+import io
+import itertools
+import multiprocessing
+import pathlib
+import random
+import subprocess
+import sys
+from collections import Counter
+
+sys.path.insert(0, str(pathlib.Path(__file__).parent.parent / "reference"))
+
+from lists import Author, stripe_author  # noqa: E402
+from script import FORMS, lines_of  # noqa: E402
+from stripe import Sizes  # noqa: E402
+from striperun import new_stripe, run  # noqa: E402
+
+PROGRAM, SEED = sys.argv[1], int(sys.argv[2])
+
+NODES = [(2, 3), (2, 4), (3, 5), (4, 7), (12, 18)]
+LENGTHS = [1, 3, 64]
+CALLS = 4000
+DAMAGED_CALLS = 500
+
+SCRIPT = b"S 1 1 0102\nA 1 3\nL 2\nR 1\nQ 2\nbogus"
+
+# First lines: readable and within the limits, then not.
+GOOD_SIZES = [
+    b"2 3 2 0 1",
+    b"2 4 2 2 8",
+    b"02 004 2 1 2",
+    b"0" * 5000 + b"2 4 2 1 2",
+    b"12 18 4096 6 8",
+]
+BAD_SIZES = [
+    b"1 2 2 1 2",
+    b"13 14 2 1 2",
+    b"2 2 2 0 2",
+    b"3 2 2 0 2",
+    b"2 5 2 1 2",
+    b"12 19 2 1 2",
+    b"2 4 0 1 2",
+    b"2 4 4097 1 2",
+    b"2 4 2 3 2",
+    b"2 4 2 1 0",
+    b"2 4 2 1 9",
+    b"2 4 2 1 18446744073709551618",
+    b"4294967298 4 2 1 2",
+    b"9" * 5000 + b" 4 2 1 2",
+    b"2 4 2 1",
+    b"2 4 2 1 ",
+    b"2 4 2 1 2 ",
+    b"2 4 2 1 2 2",
+    b" 2 4 2 1 2",
+    b"2  4 2 1 2",
+    b"2 4 2 1 2\r",
+    b"2\t4 2 1 2",
+    b"-2 4 2 1 2",
+    b"2 4 2 1 2.0",
+    b"2 4 2 1 /",
+    b"2 4 2 1 :",
+    b"2 4 2 1 \xb2",
+    b"2 4 2 1 2\0",
+    b"k n B t_d m",
+    b"",
+]
+MEGABYTE = 2**20
+ODD_INPUTS = [
+    b"",
+    b"\n",
+    b"\n\n",
+    b"2 4 2 1 2",
+    b"2 4 2 1 2\n",
+    b"2 4 2 1 2\n\n",
+    b"2 4 2 1 2\nR 1",
+    b"2 4 2 1 2\nR 1\n\nR 2\n",
+    b"2 4 2 1 2\nR 1\r\nR 1\0\nR " + b"0" * MEGABYTE + b"1\nR " + b"1" * MEGABYTE + b"\nR 1",
+    b"2 4 2 1 2\nS 1 1 " + b"AB" * MEGABYTE + b"\nS 1 1 ABCD\nN 1 " + b"00" * MEGABYTE,
+    b"2 4 2 1 2\n" + b"S" * MEGABYTE + b"\n" + b" " * MEGABYTE + b"\nS 1 1 AB\nS 1 1 ABCDEF\nS 1 1 \nS 1 1 ABC\nS 1 1 abcd",
+    bytes(range(256)) * 40,
+    b"2 4 2 1 2\n" + bytes(range(256)) * 40,
+]
+
+
+def random_lists():
+    """One list for each of the sizes, the clients in turn 1 to 8."""
+    clients = itertools.cycle([2, 8, 3, 5, 1, 4, 6, 7])
+    for k, n in NODES:
+        for B, td in itertools.product(LENGTHS, range(n - k + 1)):
+            yield Sizes(k, n, B, td, next(clients))
+
+
+def script_of(sizes, lines):
+    return b"\n".join([" ".join(map(str, sizes)).encode(), *lines])
+
+
+def random_script(seed, sizes):
+    return script_of(sizes, stripe_author(random.Random(seed), sizes).lines(CALLS))
+
+
+def damaged_script(seed, sizes):
+    author = Author(new_stripe(sizes), random.Random(seed), damaged=0.5, arbitrary=0.3)
+    return script_of(sizes, author.lines(DAMAGED_CALLS))
+
+
+def compared(script):
+    """The output of both for the script, line by line."""
+    program = subprocess.run([PROGRAM], input=script, stdout=subprocess.PIPE, check=True).stdout
+    reference = "".join(line + "\n" for line in run(lines_of(io.BytesIO(script)))).encode()
+    if program == reference:
+        return reference.splitlines()
+    for at, (ours, theirs) in enumerate(zip(program.split(b"\n"), reference.split(b"\n"))):
+        if ours != theirs:
+            called = script.split(b"\n")[at + 1]
+            sys.exit(f"{called[:100]!r}, call {at + 1}: DIFFERENT\n{ours[:2000]!r}\n{theirs[:2000]!r}")
+    sys.exit("one output goes on: DIFFERENT")
+
+
+def counts(script):
+    """Of each call how often it was accepted, of each answer, of finished rebuilds."""
+    seen = Counter()
+    for line, output in zip(script.split(b"\n")[1:], compared(script)):
+        number, returned = output.split(b" ")[:2]
+        seen["calls"] += 1
+        seen["rebuilds"] += returned == b"rebuilt"
+        seen[int(number)] += 1
+        if number == b"0":
+            seen[FORMS[line[:1]][0]] += 1
+    return seen
+
+
+def play(job):
+    make, seed, sizes = job
+    return counts(make(seed, sizes))
+
+
+def in_order(seen, keys):
+    return ", ".join(f"{key} {seen[key]}" for key in keys if seen[key])
+
+
+def show(name, seen):
+    print(f"striperun, {name}: {seen['calls']} calls the same, {seen['rebuilds']} rebuilds finished")
+
+
+def main():
+    whole = Counter()
+    for first, input in itertools.product(GOOD_SIZES + BAD_SIZES, [SCRIPT]):
+        whole += counts(first + b"\n" + input)
+    for input in ODD_INPUTS:
+        whole += counts(input)
+    show("odd inputs", whole)
+    with multiprocessing.Pool() as pool:
+        for name, make in [("damaged lists", damaged_script), ("lists", random_script)]:
+            jobs = [(make, SEED * 1000 + at, sizes) for at, sizes in enumerate(random_lists())]
+            seen = sum(pool.imap_unordered(play, jobs), Counter())
+            show(name, seen)
+            whole += seen
+    print("answers:", in_order(whole, range(13)))
+    print("accepted:", in_order(whole, [name for name, _, _ in FORMS.values()]))
+
+
+if __name__ == "__main__":
+    main()
