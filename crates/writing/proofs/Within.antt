@@ -18,13 +18,11 @@ use Rattle.records.specs.Sizes.{sizesWithin, isNode, isRedundant, isClient}
 use Rattle.records.specs.Node.{idWithin, nodeWithin}
 use Rattle.records.specs.Client.{handWithin, clientWithin}
 use Rattle.records.specs.View.{idsOf, entriesOf, nodeOf, writeOf, clientOf}
-use Rattle.machine.specs.Stripe.{Outcome, blocksFit}
-use Rattle.machine.specs.Writing.{recordsFit, tablesFit}
-use Rattle.answers.specs.declared.Answer.{Answer}
-use Rattle.answers.specs.Answers.{Meets, local}
+use Rattle.machine.specs.Stripe.{blocksFit}
+use Rattle.answers.specs.Answers.{local}
 use Rattle.records.proofs.Limits.{nodes-few, client-tests}
 use Rattle.records.proofs.Lists.{ids-count, entries-count}
-use Rattle.writing.specs.Adding.{Ready}
+use Rattle.writing.specs.Adding.{addWithin, Ready}
 use Rattle.writing.proofs.Limits.{code-sizes, range-low, block-in}
 
 few-entries : (z : Sizes) (x : NodeRecord) → nodeWithin z (nodeOf x) ≡ true → x .entries .count ≤ 16
@@ -33,6 +31,7 @@ few-entries z x e =
     let few : length (entriesOf (x .entries)) ≤ 16 = search (and-left, and-right, leb-true) in
     omega (arith, entries-count (x .entries))
 
+-- what a call at one node may count on
 pub record Lent (z : Sizes) (node : NodeRecord) (client : ClientRecord) : Type 0 where
   pub nodes : z .n ≤ 18
   pub entries : node .entries .count ≤ 16
@@ -40,9 +39,9 @@ pub record Lent (z : Sizes) (node : NodeRecord) (client : ClientRecord) : Type 0
   pub moved : client .moved .count ≤ 8
   pub round : client .round < 2 * z .n
 
-pub lent : (z : Sizes) (node : NodeRecord) (client : ClientRecord)
+pub lent-within : (z : Sizes) (node : NodeRecord) (client : ClientRecord)
     → (sizesWithin z && (nodeWithin z (nodeOf node) && clientWithin z (clientOf client))) ≡ true → Lent z node client
-lent z node client e =
+lent-within z node client e =
     let tests = sym (client-tests z (clientOf client)) ∙ and-right (nodeWithin z (nodeOf node)) _ (and-right (sizesWithin z) _ e) in
     let finished : length (idsOf (client .finished)) ≤ 8 = search (and-left, and-right, leb-true) in
     let moved : length (idsOf (client .moved)) ≤ 8 = search (and-left, and-right, leb-true) in
@@ -76,13 +75,13 @@ module _ (z : Sizes) (client : ClientRecord) (w : Write) (held : client .hand �
 
 pub ready : (z : Sizes) (c j : ℕ) (w : Write) (node : NodeRecord) (client : ClientRecord) (blocks differences : List ℕ) →
     let l = local (nodeOf node) (clientOf client) blocks differences in
-    client .hand ≡ Holding w → (sizesWithin z && (recordsFit z l && tablesFit z l)) ≡ true → (isClient z c && isRedundant z j) ≡ true
+    client .hand ≡ Holding w → addWithin z l ≡ true → (isClient z c && isRedundant z j) ≡ true
     → Ready z c j w node client blocks differences
 ready z c j w node client blocks differences held within range =
     let sizes = and-left (sizesWithin z) _ within in
     let records = and-left (nodeWithin z (nodeOf node) && clientWithin z (clientOf client)) _ (and-right (sizesWithin z) _ within) in
     let tables = and-right (nodeWithin z (nodeOf node) && clientWithin z (clientOf client)) _ (and-right (sizesWithin z) _ within) in
-    let known = lent z node client (rw sizes records) in
+    let known = lent-within z node client (rw sizes records) in
     let code = code-sizes z sizes in
     let owned = and-right (nodeWithin z (nodeOf node)) _ records in
     let client-in = and-left (isClient z c) _ range in
@@ -100,8 +99,3 @@ ready z c j w node client blocks differences held within range =
       client-first = range-low (z .m) c client-in;
       difference-there = block-in (z .m) (z .b) c differences client-in (and-right (blocksFit z blocks) _ tables);
     }
-
--- as a part of the call answered, which is what the whole answers here
-pub meets-as : {S : Type 0} {part outcome : Outcome S} {answer : Answer} {shown : List ℕ} {after : S} {same : Type 0}
-    → Meets part answer shown after same → part ≡ outcome → Meets outcome answer shown after same
-meets-as m q = record { said = m .said ∙ q; left = m .left }

@@ -87,9 +87,9 @@ pub fn drop(z: Sizes, c: u8, client: ClientRecord) -> OfClient
     if !client.has_write() {
         return OfClient::refused(client, Refusal::OutOfPhase);
     }
-    let client = client.drop_write();
+    let dropped = client.drop_write();
     OfClient {
         answer: Answer::Accepted,
-        client: client,
+        client: dropped,
     }
 }

@@ -52,11 +52,11 @@ fn sweep_node(z: Sizes, node: NodeRecord, client: ClientRecord) -> AtNode
         NodeAnswer::Refused(why) => AtNode::refused(node, client, why),
         NodeAnswer::Accepted => {
             let swept = step.node;
-            let client = client.sweep_on(z.n);
+            let next = client.sweep_on(z.n);
             AtNode {
                 answer: Answer::Accepted,
                 node: swept,
-                client: client,
+                client: next,
             }
         }
     }

@@ -1,7 +1,8 @@
 -- The tests, in order. Assumes nothing.
+use mathlib.Core.Path.{refl}
 use borrow.Author.Needs.{needs}
 use Rattle.machine.specs.Writing as Writing
-use Rattle.writing.proofs.Returns.{guards, refused-of-client}
+use Rattle.writing.proofs.Returns.{guards, refused-of-client, accepted}
 use Rattle.writing.proofs.checks.drop.Statement.{statement}
 use Rattle.writing.proofs.checks.drop.Tie as tie
 
@@ -20,4 +21,4 @@ drop-spec =
     (λ c κs. search needs)
     (λ c node blocks differences. refused-of-client (c .refused3 .ensures) (search guards))
     (λ c κs. search needs)
-    (λ c node blocks differences. rw (c .drop-write .ensures) (record { said = search guards; left = tt })))
+    (λ c node blocks differences. accepted refl (c .drop-write .ensures) refl refl (search guards)))

@@ -1,24 +1,13 @@
 -- As the node answers. Assumes nothing.
+use mathlib.Core.Path.{refl}
 use borrow.Author.Needs.{needs}
 use Rattle.answers.specs.Answers.{local}
 use Rattle.records.specs.View.{nodeOf, clientOf}
 use Rattle.writing.proofs.NodeAnswers.{stepped, sweep-refused, sweep-accepted}
-use Rattle.writing.proofs.Returns.{refused-at-node}
-use Rattle.writing.proofs.Within.{lent}
+use Rattle.writing.proofs.Returns.{refused-at-node, accepted}
+use Rattle.writing.proofs.Within.{lent-within}
 use Rattle.writing.proofs.sweeps.sweep_node.Statement.{statement}
 use Rattle.writing.proofs.sweeps.sweep_node.Tie as tie
-
-sweep-entries-requires : tie.Need-sweep-entries-requires
-sweep-entries-requires c κs =
-    let args = c .args in
-    let known = lent (args .z) (args .node) (args .client) (c .pre) in
-    (known .entries, known .moved, known .finished)
-
-sweep-on-requires : tie.Need-sweep-on-requires
-sweep-on-requires c κs =
-    let at-start = c .before .before .before .before in
-    let known = lent (at-start .args .z) (at-start .args .node) (at-start .args .client) (at-start .pre) in
-    (known .round, known .nodes)
 
 returns : tie.Need-returns
 returns c blocks differences =
@@ -32,7 +21,19 @@ returns-2 c blocks differences =
     let l = local (nodeOf (args .node)) (clientOf (args .client)) blocks differences in
     let step = at-step .sweep-entries .ensures in
     let took = c .before .before .enum-told .given .1 in
-    rw (stepped step took, c .sweep-on .ensures) (record { said = sweep-accepted l _ _ (step .answered) took; left = tt })
+    accepted (stepped step took) (c .sweep-on .ensures) refl refl (sweep-accepted l _ _ (step .answered) took)
+
+sweep-entries-requires : tie.Need-sweep-entries-requires
+sweep-entries-requires c κs =
+    let args = c .args in
+    let known = lent-within (args .z) (args .node) (args .client) (c .pre) in
+    (known .entries, known .moved, known .finished)
+
+sweep-on-requires : tie.Need-sweep-on-requires
+sweep-on-requires c κs =
+    let at-start = c .before .before .before .before in
+    let known = lent-within (at-start .args .z) (at-start .args .node) (at-start .args .client) (at-start .pre) in
+    (known .round, known .nodes)
 
 pub sweep-node-spec : {M : Type 1} → statement M
 sweep-node-spec =
