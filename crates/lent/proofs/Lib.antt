@@ -1,0 +1,12 @@
+pub mod Elem
+pub mod Entry
+pub mod EntryMutImm
+pub mod EntryMutMutImm
+pub mod Fold
+pub mod Frees
+pub mod Lists
+pub mod Look
+pub mod LookMutImm
+pub mod Map
+pub mod Pure
+pub mod Shape
