@@ -1,5 +1,5 @@
 // Swap.
-ghost use mathlib.Core.Bool.{true, _&&_, _||_};
+ghost use mathlib.Core.Bool.{_&&_, _||_};
 ghost use mathlib.Core.List.{[]};
 ghost use mathlib.Core.Path.{_≡_};
 ghost use Prim.Native.Nat.{_+_, _-_, _*_, _≤_, _<_};
@@ -14,6 +14,7 @@ ghost use Rattle.records.specs.Sizes.{sizesWithin, isPosition, isClient};
 ghost use Rattle.records.specs.View.{nodeOf, clientOf};
 ghost use Rattle.machine.specs.Writing as Writing;
 ghost use Rattle.answers.specs.Answers.{Meets, local};
+use crate::lent::are_records_within;
 use crate::tables::are_tables;
 use answers::Answer;
 use answers::AtNode;
@@ -25,13 +26,6 @@ use records::Refusal;
 use records::Sizes;
 use records::Write;
 use records::WriteId;
-
-fn are_records_within(z: Sizes, node: NodeRecord, client: ClientRecord) -> bool
-    requires { ⌜ sizesWithin z ≡ true ⌝ }
-    ensures { λ r. ⌜ r ≡ (nodeWithin z (nodeOf node) && clientWithin z (clientOf client)) ⌝ }
-{
-    node.is_within(z) && client.is_within(z)
-}
 
 // Whether a swap's sizes, records, tables and value are within the limits.
 fn is_within(
