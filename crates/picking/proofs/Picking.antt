@@ -12,7 +12,7 @@ use Rattle.records.specs.declared.Sizes.{Sizes}
 use Rattle.records.specs.declared.Refusal.the-variants.{OutOfPhase, Exhausted, TooFew}
 use Rattle.records.specs.Node.{epochLimit, heldBy, heldAtL1}
 use Rattle.records.specs.Client.{Rebuild, NoRebuild, Locking, Picking, Writing, Settling, Unlocking}
-use Rattle.rebuild.specs.Contracts.{notHeld}
+use Rattle.entrance.specs.Contracts.{notHeld}
 use Rattle.picking.specs.Picking.{isPicking, pickHeld}
 use Rattle.picking.proofs.PickedSets.{picked-invertible, needed-least}
 

@@ -18,11 +18,11 @@ use Rattle.records.specs.declared.Refusal.the-variants.{OutOfLimits, OutOfRange
 use Rattle.records.specs.Sizes.{isClient}
 use Rattle.stripe.specs.declared.nodes.Nodes.{Nodes}
 use Rattle.answers.specs.declared.Answer.the-variants as Answer
-use Rattle.rebuild.specs.declared.OnStripe.{OnStripe}
-use Rattle.rebuild.specs.Contracts.{seen, Plays, Admitted}
+use Rattle.entrance.specs.declared.OnStripe.{OnStripe}
+use Rattle.entrance.specs.Contracts.{seen, Plays, Admitted}
 use Rattle.picking.specs.Tables.{tablesFit, TabledEntrance, Tables}
-use Rattle.rebuild.proofs.Admission.{passed, failed, admitted}
-use Rattle.rebuild.proofs.Played.{plays-refused, plays-as}
+use Rattle.entrance.proofs.Admission.{passed, failed, admitted}
+use Rattle.entrance.proofs.Played.{plays-refused, plays-as}
 
 first-passed : (test : Bool) (rest : NodeAnswer) → cond test (Refused OutOfLimits) rest ≡ Accepted → test ≡ false
 first-passed true rest e = cc

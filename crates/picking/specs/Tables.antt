@@ -13,7 +13,7 @@ use Rattle.records.specs.declared.NodeAnswer.the-variants.{Accepted, Refused}
 use Rattle.records.specs.declared.Refusal.the-variants.{OutOfLimits, OutOfRange}
 use Rattle.records.specs.Sizes.{isClient}
 use Rattle.stripe.specs.declared.nodes.Nodes.{Nodes}
-use Rattle.rebuild.specs.Contracts.{seen}
+use Rattle.entrance.specs.Contracts.{seen}
 
 -- "buffer length": both tables have n blocks
 abbrev pub tablesFit : Sizes → List ℕ → List ℕ → Bool

@@ -1,6 +1,6 @@
 // The tests of the calls that are lent both tables, the blocks and the spare.
 ghost use Rattle.picking.specs.Tables.{TabledEntrance};
-use rebuild::entrance::entrance;
+use entrance::on_stripe::entrance;
 use records::ClientRecord;
 use records::NodeAnswer;
 use records::Refusal;

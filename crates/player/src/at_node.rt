@@ -133,7 +133,7 @@ pub fn sweep(z: Sizes, c: u8, stripe: Stripe) -> Played
     let client = clients.get(z.m, c);
     let j = sweep_node(z, client);
     let node = nodes::get(nodes, z.n, j);
-    let r = writing::sweep(z, c, node, client);
+    let r = upkeep::sweep(z, c, node, client);
     put(z, c, j, stripe, r)
 }
 
@@ -163,7 +163,7 @@ pub fn check(z: Sizes, c: u8, j: u8, stripe: Stripe) -> Played
     let clients = stripe.clients;
     let node = nodes::get(nodes, z.n, j);
     let client = clients.get(z.m, c);
-    let r = writing::check(z, c, j, node, client);
+    let r = upkeep::check(z, c, j, node, client);
     put_client(z, c, stripe, r)
 }
 
@@ -175,7 +175,7 @@ pub fn drop(z: Sizes, c: u8, stripe: Stripe) -> Played
 {
     let clients = stripe.clients;
     let client = clients.get(z.m, c);
-    let r = writing::drop(z, c, client);
+    let r = upkeep::drop(z, c, client);
     put_client(z, c, stripe, r)
 }
 
@@ -187,7 +187,7 @@ pub fn fail(z: Sizes, j: u8, value: &[u8], stripe: Stripe, blocks: &mut [u8]) ->
 {
     let nodes = stripe.nodes;
     let node = nodes::get(nodes, z.n, j);
-    let r = writing::fail(z, j, value, node, blocks);
+    let r = upkeep::fail(z, j, value, node, blocks);
     let answer = r.answer;
     let failed = r.node;
     let after = with_node(z, j, stripe, failed);

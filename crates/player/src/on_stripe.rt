@@ -7,13 +7,13 @@ ghost use Rattle.machine.specs.Stripe.{setAt};
 ghost use Rattle.machine.specs.Calls.{step};
 ghost use Rattle.records.specs.Sizes.{sizesWithin};
 ghost use Rattle.records.specs.View.{clientOf};
-ghost use Rattle.rebuild.specs.Contracts.{PlaysAlone};
+ghost use Rattle.entrance.specs.Contracts.{PlaysAlone};
 ghost use Rattle.player.specs.View.{clientsOf, stripeOf};
 ghost use Rattle.player.specs.Steps.{Says, aloneOf, aloneCall, playing};
 use crate::Played;
 use crate::Stripe;
 use calls::Call;
-use rebuild::OnStripe;
+use entrance::OnStripe;
 use records::ClientRecord;
 use records::Sizes;
 use stripe::Nodes;
@@ -52,13 +52,13 @@ fn make(z: Sizes, c: u8, which: Alone, nodes: Nodes, client: ClientRecord) -> On
     ensures { λ r. ⌜ PlaysAlone (aloneCall which) z c nodes client r ⌝ }
 {
     match which {
-        Alone::Lock => rebuild::lock(z, c, nodes, client),
+        Alone::Lock => locking::lock(z, c, nodes, client),
         Alone::Weaken => picking::weaken(z, c, nodes, client),
-        Alone::Tighten => rebuild::tighten(z, c, nodes, client),
-        Alone::Settle => rebuild::settle(z, c, nodes, client),
-        Alone::Unlock => rebuild::unlock(z, c, nodes, client),
-        Alone::Quit => rebuild::quit(z, c, nodes, client),
-        Alone::Stop => rebuild::stop(z, c, nodes, client),
+        Alone::Tighten => locking::tighten(z, c, nodes, client),
+        Alone::Settle => ending::settle(z, c, nodes, client),
+        Alone::Unlock => locking::unlock(z, c, nodes, client),
+        Alone::Quit => ending::quit(z, c, nodes, client),
+        Alone::Stop => ending::stop(z, c, nodes, client),
     }
 }
 

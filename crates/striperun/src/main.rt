@@ -1,9 +1,7 @@
 // Plays a script on a stripe of any size, and prints everything after each call.
-mod clients; // clients.rt: the text of the client records
+mod clients; // clients.rt: the client records
 mod input; // input.rt: the lines of standard input
-mod lists; // lists.rt: texts of sets, ids and entries
-mod nodes; // nodes.rt: the text of the node records
-mod output; // output.rt: standard output by way of a buffer
+mod nodes; // nodes.rt: the node records with their blocks
 mod script; // script.rt: the lines of a script, one after the other
 mod show; // show.rt: what is printed of a call
 mod sizes; // sizes.rt: the line of sizes

@@ -5,8 +5,6 @@ ghost use Rattle.striperun.specs.Tables.{Within, Tables};
 use super::input::Input;
 use super::input::TURNS;
 use super::input::Taken;
-use super::output::flush;
-use super::output::put_text;
 use super::show::put_played;
 use answers::Answer;
 use lines::reader::Line;
@@ -14,6 +12,8 @@ use player::Played;
 use player::Stripe;
 use records::Refusal;
 use records::Sizes;
+use texts::output::flush;
+use texts::output::put_text;
 
 // The sizes are outside the limits: each line is refused.
 pub fn refuse_lines(mut input: Input, buffer: &mut [u8], out: &mut [u8]) {

@@ -2,15 +2,7 @@
 ghost use Prim.Native.Nat.{_≤_};
 ghost use Rattle.striperun.specs.Tables.{Tables};
 use super::clients::put_clients;
-use super::lists::put_id;
-use super::lists::put_set;
-use super::nodes::put_modes;
 use super::nodes::put_nodes;
-use super::output::put;
-use super::output::put_bytes;
-use super::output::put_number;
-use super::output::put_number_and;
-use super::output::put_text;
 use answers::Answer;
 use calls::Call;
 use lines::reader::Line;
@@ -20,6 +12,14 @@ use records::ClientRecord;
 use records::Phase;
 use records::Refusal;
 use records::Sizes;
+use texts::lists::put_id;
+use texts::lists::put_set;
+use texts::nodes::put_modes;
+use texts::output::put;
+use texts::output::put_bytes;
+use texts::output::put_number;
+use texts::output::put_number_and;
+use texts::output::put_text;
 
 // What was picked: the set, and E.
 fn put_picked(out: &mut [u8], mut at: usize, client: ClientRecord) -> usize {

@@ -30,7 +30,7 @@ use Rattle.machine.specs.Writing.{isComplete, withDone, addedTo, addEnter, addA
 use Rattle.answers.specs.declared.Answer.{Answer}
 use Rattle.answers.specs.declared.Answer.the-variants as Answer
 use Rattle.answers.specs.Answers.{answerOf, Left, Meets, local}
-use Rattle.writing.proofs.NodeAnswers.{seen, seen-test}
+use Rattle.entrance.proofs.NodeAnswers.{seen, seen-test}
 
 pub add-empty : (z : Sizes) (c j : ℕ) (client : ClientRecord) (l : Local) → client .hand ≡ Empty → refused OutOfPhase l ≡ addWrite z c j (clientOf client .hand) l
 unfolding addWrite

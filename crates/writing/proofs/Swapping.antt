@@ -21,8 +21,8 @@ use Rattle.machine.specs.Stripe.{Outcome, Local, refused, guard, blocksFit}
 use Rattle.machine.specs.Writing.{recordsFit, tablesFit, swapped, swap}
 use Rattle.answers.specs.declared.Answer.the-variants as Answers
 use Rattle.answers.specs.Answers.{Meets, local}
-use Rattle.writing.proofs.Limits.{range-low, block-in, position-node}
-use Rattle.writing.proofs.Returns.{accepted}
+use Rattle.entrance.proofs.Limits.{range-low, block-in, position-node}
+use Rattle.entrance.proofs.Returns.{accepted}
 
 abbrev pub isWithin : Sizes → List ℕ → Local → Bool
 isWithin z value l = sizesWithin z && (recordsFit z l && (tablesFit z l && eqb (length value) (z .b)))

@@ -3,9 +3,9 @@ use mathlib.Core.Path.{sym, _∙_}
 use borrow.Author.Needs.{needs}
 use Rattle.machine.specs.Rebuild.{pick, pickNow}
 use Rattle.records.specs.View.{clientOf}
-use Rattle.rebuild.specs.Contracts.{seen}
+use Rattle.entrance.specs.Contracts.{seen}
 use Rattle.picking.proofs.Picking.{pick-in, pick-out}
-use Rattle.rebuild.proofs.Played.{plays-refused, plays-as}
+use Rattle.entrance.proofs.Played.{plays-refused, plays-as}
 use Rattle.picking.proofs.Tabled.{tabled-admitted, tabled-tables, tabled-turned, tabled-on}
 use Rattle.picking.proofs.picks.pick.Statement.{statement}
 use Rattle.picking.proofs.picks.pick.Tie as tie

@@ -8,11 +8,11 @@ use Rattle.machine.specs.Rebuild.{pickedSet}
 use Rattle.machine.proofs.CodeLaws.{sizes}
 use Rattle.stripe.specs.View.{nodesOf}
 use Rattle.stripe.proofs.NodeLists.{nodes-count, within-counted}
-use Rattle.rebuild.specs.Contracts.{seen}
-use Rattle.rebuild.proofs.Admission.{sizes-known}
+use Rattle.entrance.specs.Contracts.{seen}
+use Rattle.entrance.proofs.Admission.{sizes-known}
 use Rattle.picking.proofs.PickedSets.{picked-held, needed-least}
 use Rattle.picking.proofs.Picking.{held-few, held-enough}
-use Rattle.rebuild.proofs.Played.{plays-refused, plays-made}
+use Rattle.entrance.proofs.Played.{plays-refused, plays-made}
 use Rattle.picking.proofs.picks.pick_held.Statement.{statement}
 use Rattle.picking.proofs.picks.pick_held.Tie as tie
 

@@ -2,11 +2,11 @@
 use mathlib.Core.Path.{_≡_, sym, _∙_}
 use native.Mathlib.Omega.{arith}
 use borrow.Author.Needs.{needs}
-use Rattle.rebuild.specs.Contracts.{seen}
+use Rattle.entrance.specs.Contracts.{seen}
 use Rattle.picking.specs.Picking.{pickHeld}
-use Rattle.rebuild.proofs.Admission.{sizes-known}
+use Rattle.entrance.proofs.Admission.{sizes-known}
 use Rattle.picking.proofs.Picking.{now-exhausted, now-lost, now-held}
-use Rattle.rebuild.proofs.Played.{plays-refused, plays-as}
+use Rattle.entrance.proofs.Played.{plays-refused, plays-as}
 use Rattle.picking.proofs.picks.pick_now.Statement.{statement}
 use Rattle.picking.proofs.picks.pick_now.Tie as tie
 

@@ -3,10 +3,10 @@ use mathlib.Core.Path.{sym, _∙_}
 use borrow.Author.Needs.{needs}
 use Rattle.machine.specs.Rebuild.{weaken}
 use Rattle.records.specs.View.{clientOf}
-use Rattle.rebuild.specs.Contracts.{seen}
-use Rattle.rebuild.proofs.Admission.{admitted}
+use Rattle.entrance.specs.Contracts.{seen}
+use Rattle.entrance.proofs.Admission.{admitted}
 use Rattle.picking.proofs.Picking.{weaken-out}
-use Rattle.rebuild.proofs.Played.{plays-refused, plays-turned, plays-on}
+use Rattle.entrance.proofs.Played.{plays-refused, plays-turned, plays-on}
 use Rattle.picking.proofs.picks.weaken.Statement.{statement}
 use Rattle.picking.proofs.picks.weaken.Tie as tie
 

@@ -4,10 +4,10 @@ use native.Mathlib.Omega.{arith}
 use borrow.Author.Needs.{needs}
 use Rattle.records.proofs.Limits.{nodes-few}
 use Rattle.records.specs.View.{clientOf}
-use Rattle.rebuild.specs.Contracts.{seen}
-use Rattle.rebuild.proofs.Admission.{sizes-known}
+use Rattle.entrance.specs.Contracts.{seen}
+use Rattle.entrance.proofs.Admission.{sizes-known}
 use Rattle.picking.proofs.Picking.{weaken-recons, weaken-lost, weaken-held}
-use Rattle.rebuild.proofs.Played.{plays-refused, plays-made, plays-as}
+use Rattle.entrance.proofs.Played.{plays-refused, plays-made, plays-as}
 use Rattle.picking.proofs.picks.weaken_now.Statement.{statement}
 use Rattle.picking.proofs.picks.weaken_now.Tie as tie
 

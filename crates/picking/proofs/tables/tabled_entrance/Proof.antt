@@ -7,7 +7,7 @@ use borrow.Author.Tests.{eq-eqb, ne-eqb, not-true, not-false}
 use Rattle.code.proofs.Limits.{small-table}
 use Rattle.machine.specs.Rebuild.{outOfLimits}
 use Rattle.machine.proofs.CodeLaws.{sizes}
-use Rattle.rebuild.specs.Contracts.{seen}
+use Rattle.entrance.specs.Contracts.{seen}
 use Rattle.picking.proofs.tables.tabled_entrance.Statement.{statement}
 use Rattle.picking.proofs.tables.tabled_entrance.Tie as tie
 

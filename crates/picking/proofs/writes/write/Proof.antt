@@ -1,7 +1,7 @@
 -- The tests, in order; then by the phase. Assumes nothing.
 use borrow.Author.Needs.{needs}
 use Rattle.machine.specs.Rebuild.{write, writeIn}
-use Rattle.rebuild.specs.Contracts.{seen, inPhase}
+use Rattle.entrance.specs.Contracts.{seen, inPhase}
 use Rattle.picking.proofs.Tabled.{tabled-admitted, tabled-tables, tabled-turned, tabled-on}
 use Rattle.picking.proofs.writes.write.Statement.{statement}
 use Rattle.picking.proofs.writes.write.Tie as tie

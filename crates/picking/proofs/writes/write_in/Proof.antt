@@ -1,7 +1,7 @@
 -- By the phase. Assumes nothing.
 use borrow.Author.Needs.{needs}
-use Rattle.rebuild.proofs.Phases.{not-writing}
-use Rattle.rebuild.proofs.Played.{plays-refused}
+use Rattle.entrance.proofs.Phases.{not-writing}
+use Rattle.entrance.proofs.Played.{plays-refused}
 use Rattle.picking.proofs.writes.write_in.Statement.{statement}
 use Rattle.picking.proofs.writes.write_in.Tie as tie
 

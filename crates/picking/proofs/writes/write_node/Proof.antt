@@ -5,8 +5,8 @@ use Rattle.blocks.proofs.Parts.{block-fits}
 use Rattle.machine.specs.Rebuild.{writeIn, holding}
 use Rattle.records.specs.Node.{heldBy, written}
 use Rattle.stripe.specs.View.{nodesOf}
-use Rattle.rebuild.proofs.Phases.{writing}
-use Rattle.rebuild.proofs.Played.{plays-made, plays-as, asked, put}
+use Rattle.entrance.proofs.Phases.{writing}
+use Rattle.entrance.proofs.Played.{plays-made, plays-as, asked, put}
 use Rattle.picking.proofs.writes.write_node.Statement.{statement}
 use Rattle.picking.proofs.writes.write_node.Tie as tie
 

@@ -1,7 +1,7 @@
 -- Fresh nodes and fresh clients. Assumes nothing.
 use borrow.Author.Needs.{needs}
 use Rattle.records.proofs.Limits.{nodes-few}
-use Rattle.writing.proofs.Limits.{clients-few}
+use Rattle.entrance.proofs.Limits.{clients-few}
 use Rattle.player.proofs.Stripe.fresh.Statement.{statement}
 use Rattle.player.proofs.Stripe.fresh.Tie as tie
 

@@ -5,7 +5,7 @@ use Rattle.machine.specs.Stripe.{nodeAt}
 use Rattle.machine.specs.Calls.{step}
 use Rattle.machine.specs.Writing as Writing
 use Rattle.stripe.specs.View.{nodesOf}
-use Rattle.writing.proofs.Limits.{clients-few}
+use Rattle.entrance.proofs.Limits.{clients-few}
 use Rattle.player.specs.View.{clientsOf}
 use Rattle.player.proofs.Steps.{played-at, node-none}
 use Rattle.player.proofs.at_node.drop.Statement.{statement}

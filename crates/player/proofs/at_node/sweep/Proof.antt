@@ -9,7 +9,7 @@ use Rattle.machine.specs.Writing.{sweepNode}
 use Rattle.records.specs.View.{nodeOf}
 use Rattle.records.proofs.Limits.{nodes-few}
 use Rattle.stripe.specs.View.{nodesOf}
-use Rattle.writing.proofs.Limits.{clients-few, code-sizes}
+use Rattle.entrance.proofs.Limits.{clients-few, code-sizes}
 use Rattle.player.specs.View.{clientsOf}
 use Rattle.player.proofs.Steps.{played-at}
 use Rattle.player.proofs.at_node.sweep.Statement.{statement}

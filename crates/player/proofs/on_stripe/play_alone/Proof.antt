@@ -2,7 +2,7 @@
 use mathlib.Core.Path.{ap, _∙_}
 use borrow.Author.Needs.{needs}
 use Rattle.stripe.specs.View.{nodesOf}
-use Rattle.writing.proofs.Limits.{clients-few}
+use Rattle.entrance.proofs.Limits.{clients-few}
 use Rattle.player.specs.View.{clientsOf, stripeOf}
 use Rattle.player.specs.Steps.{aloneCall}
 use Rattle.player.proofs.Steps.{played-on, alone-step}

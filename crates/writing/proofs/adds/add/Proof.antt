@@ -7,8 +7,8 @@ use Rattle.machine.specs.Writing as Writing
 use Rattle.answers.specs.Answers.{local}
 use Rattle.writing.specs.Adding.{addWithin}
 use Rattle.writing.proofs.Adding.{add-empty}
-use Rattle.writing.proofs.Returns.{guards, holds, refused-at-node}
-use Rattle.writing.proofs.Within.{ready}
+use Rattle.entrance.proofs.Returns.{guards, holds, refused-at-node}
+use Rattle.writing.proofs.Ready.{ready}
 use Rattle.writing.proofs.adds.add.Statement.{statement}
 use Rattle.writing.proofs.adds.add.Tie as tie
 

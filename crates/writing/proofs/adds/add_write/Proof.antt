@@ -7,8 +7,8 @@ use Rattle.records.specs.View.{nodeOf, clientOf}
 use Rattle.machine.specs.Stripe.{Local}
 use Rattle.answers.specs.Answers.{local}
 use Rattle.writing.proofs.Adding.{add-done, add-refused, add-accepted}
-use Rattle.writing.proofs.NodeAnswers.{stepped}
-use Rattle.writing.proofs.Returns.{refused-at-node}
+use Rattle.entrance.proofs.NodeAnswers.{stepped}
+use Rattle.entrance.proofs.Returns.{refused-at-node}
 use Rattle.writing.proofs.adds.add_write.Statement.{statement}
 use Rattle.writing.proofs.adds.add_write.Tie as tie
 

@@ -1,3 +1,0 @@
-pub mod Admission
-pub mod Played
-pub mod Phases
