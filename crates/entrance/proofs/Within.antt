@@ -13,15 +13,9 @@ use Rattle.records.specs.declared.ClientRecord.{ClientRecord}
 use Rattle.records.specs.Sizes.{sizesWithin}
 use Rattle.records.specs.Node.{nodeWithin}
 use Rattle.records.specs.Client.{clientWithin}
-use Rattle.records.specs.View.{idsOf, entriesOf, nodeOf, clientOf}
-use Rattle.records.proofs.Limits.{nodes-few, client-tests}
-use Rattle.records.proofs.Lists.{ids-count, entries-count}
-
-few-entries : (z : Sizes) (x : NodeRecord) → nodeWithin z (nodeOf x) ≡ true → x .entries .count ≤ 16
-unfolding nodeWithin
-few-entries z x e =
-    let few : length (entriesOf (x .entries)) ≤ 16 = search (and-left, and-right, leb-true) in
-    omega (arith, entries-count (x .entries))
+use Rattle.records.specs.View.{idsOf, nodeOf, clientOf}
+use Rattle.records.proofs.Limits.{nodes-few, client-tests, few-entries}
+use Rattle.records.proofs.Lists.{ids-count}
 
 -- what a call at one node may count on
 pub record Lent (z : Sizes) (node : NodeRecord) (client : ClientRecord) : Type 0 where

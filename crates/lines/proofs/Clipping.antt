@@ -6,18 +6,19 @@ use Prim.Native.Nat.{ℕ, zero, suc, _≤_, _<_, min}
 use native.Mathlib.Decide.{decLe}
 use native.Mathlib.Omega.{arith}
 use lib.Dec.{eqb, leb, ltb}
-use lib.ListN.{length, List·getD-eq-default}
+use lib.ListN.{length}
 use borrow.Author.Tests.{lt-leb, le-leb, ne-eqb}
 use Rattle.records.specs.declared.Sizes.{Sizes}
 use Rattle.records.specs.declared.Refusal.the-variants.{OutOfLimits, OutOfRange}
 use Rattle.records.specs.Node.{failedNode, nodeWithin}
 use Rattle.records.specs.Client.{Client, freshClient, clientWithin}
 use Rattle.records.specs.Sizes.{sizesWithin, isNode, isPosition, isRedundant, isClient}
-use Rattle.machine.specs.Stripe.{Stripe, Outcome, answered, refused, guard, Local, Whole, elementAt, nodeAt, clientAt, atNode, putNode, onNode, whole, putWhole, onWhole, blocksFit, nodesFit}
+use Rattle.machine.specs.Stripe.{Stripe, Outcome, refused, guard, Local, Whole, elementAt, nodeAt, clientAt, atNode, onNode, whole, onWhole, blocksFit, nodesFit}
 use Rattle.machine.specs.Calls.{Call, Read, Swap, Add, Check, Drop, Sweep, Stop, Fail, Lock, Pick, Weaken, Tighten, Write, Settle, Unlock, Quit, step}
 use Rattle.machine.specs.Writing as Writing
 use Rattle.machine.specs.Rebuild as Rebuild
-use Rattle.machine.proofs.View.{put-back, put-whole-back}
+use Rattle.machine.proofs.Elements.{element-past}
+use Rattle.machine.proofs.View.{refused-at, refused-on}
 use Rattle.lines.specs.Reading.{clipNumber, clipValue, clip}
 
 clip-below : (x : ℕ) → x ≤ 255 → clipNumber x ≡ x
@@ -37,12 +38,6 @@ unfolding clipValue
 clip-long room [] h = absurd (omega arith)
 clip-long zero (x ∷ v) h = omega arith
 clip-long (suc room) (x ∷ v) h = let e = clip-long room v (omega arith) in omega arith
-
--- an element past the list's end is not there
-element-past : {A : Type 0} (d : A) (l : List A) (x : ℕ) → length l < x → elementAt d l x ≡ d
-unfolding elementAt
-element-past d l zero h = refl
-element-past d l (suc x) h = List·getD-eq-default l d (omega arith)
 
 element-clip : {A : Type 0} (d : A) (l : List A) (x : ℕ) → length l < 255 → elementAt d l (clipNumber x) ≡ elementAt d l x
 element-clip d l x h = by (decLe x 255)
@@ -80,19 +75,13 @@ module _ (z : Sizes) (s : Stripe) where
   -- a call at one node, or on the whole stripe, that is denied
   denied-at : (j c : ℕ) (call : Local → Outcome Local) (test : Bool) → call (atNode j c s) ≡ denied test (atNode j c s) → onNode j c call s ≡ denied test s
   unfolding denied
-  denied-at j c call test e = ap (λ o. answered (o .answer) (putNode j c (o .after) s)) e ∙ by test
-    where
-      by : (test : Bool) → answered (denied test (atNode j c s) .answer) (putNode j c (denied test (atNode j c s) .after) s) ≡ denied test s
-      by true = ap (answered _) (put-back j c s)
-      by false = ap (answered _) (put-back j c s)
+  denied-at j c call true e = refused-at s OutOfLimits j c call e
+  denied-at j c call false e = refused-at s OutOfRange j c call e
 
   denied-on : (c : ℕ) (call : Whole → Outcome Whole) (test : Bool) → call (whole c s) ≡ denied test (whole c s) → onWhole c call s ≡ denied test s
   unfolding denied
-  denied-on c call test e = ap (λ o. answered (o .answer) (putWhole c (o .after) s)) e ∙ by test
-    where
-      by : (test : Bool) → answered (denied test (whole c s) .answer) (putWhole c (denied test (whole c s) .after) s) ≡ denied test s
-      by true = ap (answered _) (put-whole-back c s)
-      by false = ap (answered _) (put-whole-back c s)
+  denied-on c call true e = refused-on s OutOfLimits c call e
+  denied-on c call false e = refused-on s OutOfRange c call e
 
   -- the two first tests of every call, the second not passed
   first-tests : {S : Type 0} (test range : Bool) (s : S) (rest : Outcome S) → range ≡ false

@@ -18,6 +18,12 @@ use Rattle.machine.specs.Stripe.{elementAt, nodeAt, everyOf, someOf}
 use Rattle.machine.specs.Rebuild.{restored, largestEpoch}
 use Rattle.machine.proofs.Base.{clash, and-both, or-one, or-none}
 
+-- no element has a number past the last
+pub element-past : {A : Type 0} (d : A) (l : List A) (j : ℕ) → length l < j → elementAt d l j ≡ d
+unfolding elementAt
+element-past d l zero h = refl
+element-past d l (suc j) h = List·getD-eq-default l d (omega arith)
+
 module _ {E : Type 0} (d : E) where
   pub every-at : (p : E → Bool) (l : List E) → everyOf p l ≡ true → (j : ℕ) → 1 ≤ j → j ≤ length l → p (elementAt d l j) ≡ true
   unfolding everyOf elementAt

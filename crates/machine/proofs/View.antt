@@ -9,6 +9,7 @@ use lib.ListN.{length, getD, set, length-set}
 use borrow.Author.Tests.{eqb-true, ne-eqb}
 use lib.Seq.{getD-set-same, getD-set-other, set-getD}
 use Rattle.records.specs.declared.Sizes.{Sizes}
+use Rattle.records.specs.declared.Refusal.{Refusal}
 use Rattle.records.specs.declared.Lmode.{Lmode}
 use Rattle.records.specs.declared.Lmode.the-variants as Lmode
 use Rattle.records.specs.declared.Holder.{Holder}
@@ -17,7 +18,7 @@ use Rattle.records.specs.Node.{Node, failedNode, isHolder}
 use Rattle.records.specs.Node as Node
 use Rattle.records.specs.Client as Client
 use Rattle.records.specs.Client.{freshClient}
-use Rattle.machine.specs.Stripe.{Stripe, elementAt, nodeAt, clientAt, setAt, atNode, putNode, whole, putWhole}
+use Rattle.machine.specs.Stripe.{Stripe, Outcome, answered, refused, Local, Whole, elementAt, nodeAt, clientAt, setAt, atNode, putNode, onNode, whole, putWhole, onWhole}
 use Rattle.machine.proofs.Base.{upd, upd-same, upd-other, same-or, clash}
 use Rattle.machine.proofs.Columns.{Columns, Lock, Unl, Exp, L0, L1, isUnl, isExp, isL0, isLocked, heldBy, setOps, setLocks, setEpochs, setRsets, setEntries, setHands, setPhases, setFinished, setNexts}
 use Rattle.machine.proofs.Bytes.{Block, blockOf}
@@ -165,6 +166,14 @@ put-back j c s =
 pub put-whole-back : (c : ℕ) (s : Stripe) → putWhole c (whole c s) s ≡ s
 put-whole-back c s =
     λ i. record { nodes = s .nodes; clients = set-same (λ (x : Client.Client). x) freshClient (s .clients) c i; blocks = s .blocks; spare = s .spare; differences = s .differences }
+
+-- a call that is refused and leaves all unchanged
+module _ (s : Stripe) (why : Refusal) where
+  pub refused-at : (j c : ℕ) (call : Local → Outcome Local) → call (atNode j c s) ≡ refused why (atNode j c s) → onNode j c call s ≡ refused why s
+  refused-at j c call e = ap (λ o. answered (o .answer) (putNode j c (o .after) s)) e ∙ ap (answered _) (put-back j c s)
+
+  pub refused-on : (c : ℕ) (call : Whole → Outcome Whole) → call (whole c s) ≡ refused why (whole c s) → onWhole c call s ≡ refused why s
+  refused-on c call e = ap (λ o. answered (o .answer) (putWhole c (o .after) s)) e ∙ ap (answered _) (put-whole-back c s)
 
 ---- locks: the record's tests are the lock's
 held-lock : (c : ℕ) (l : Lmode) (h : Holder) → 1 ≤ c → ((Node.isL0 l || Node.isL1 l) && isHolder c h) ≡ heldBy c (lockOf l h)

@@ -5,18 +5,13 @@ use mathlib.Core.List.{List}
 use Prim.Native.Nat.{ℕ, zero, suc, _-_, _≤_, _<_}
 use native.Mathlib.Decide.{ℕ-discrete}
 use native.Mathlib.Omega.{arith}
-use lib.ListN.{length, getD, set, replicate, length-set, length-replicate, getD-replicate, List·getD-eq-default}
+use lib.ListN.{length, getD, set, replicate, length-set, length-replicate, getD-replicate}
 use lib.Seq.{ext-getD, getD-set-same, getD-set-other, set-out}
 use Rattle.blocks.specs.Blocks.{listOf}
 use Rattle.blocks.proofs.Tables.{length-listOf, getD-listOf}
 use Rattle.machine.specs.Stripe.{elementAt, setAt}
 
--- no element has a number past the last, or 0
-pub element-past : {A : Type 0} (d : A) (l : List A) (j : ℕ) → length l < j → elementAt d l j ≡ d
-unfolding elementAt
-element-past d l zero h = refl
-element-past d l (suc j) h = List·getD-eq-default l d (omega arith)
-
+-- no element has the number 0, and none is set there or past the last
 pub element-none : {A : Type 0} (d : A) (l : List A) (j : ℕ) → j < 1 → elementAt d l j ≡ d
 unfolding elementAt
 element-none d l zero h = refl

@@ -6,10 +6,10 @@ use Prim.Native.Nat.{ℕ, _*_, _≤_}
 use native.Mathlib.Omega.{arith}
 use lib.Dec.{eqb}
 use lib.ListN.{length, replicate}
-use Rattle.machine.specs.Stripe.{Stripe, Outcome, answered, refused, guard, Local, Whole, nodeAt, clientAt, setAt, atNode, putNode, onNode, whole, putWhole, onWhole}
+use Rattle.machine.specs.Stripe.{Stripe, Outcome, answered, refused, guard, Local, Whole, nodeAt, clientAt, setAt, putNode, onNode, whole, putWhole, onWhole}
 use Rattle.machine.specs.Writing as Writing
 use Rattle.machine.specs.Rebuild as Rebuild
-use Rattle.machine.proofs.View.{put-back, put-whole-back, set-same}
+use Rattle.machine.proofs.View.{put-back, refused-at, refused-on, set-same}
 use Rattle.machine.specs.Calls.{step}
 use Rattle.records.specs.declared.Sizes.{Sizes}
 use Rattle.records.specs.declared.Refusal.{Refusal}
@@ -20,11 +20,12 @@ use Rattle.records.specs.Client.{Client}
 use Rattle.answers.specs.declared.Answer.{Answer}
 use Rattle.answers.specs.Answers.{Meets, answerOf, local}
 use Rattle.answers.specs.Answers as Answers
-use Rattle.player.specs.declared.on_stripe.Alone.{Alone}
-use Rattle.player.specs.declared.on_stripe.Alone.the-variants as Alones
+use Rattle.alone.specs.declared.Alone.{Alone}
+use Rattle.alone.specs.declared.Alone.the-variants as Alones
 use Rattle.calls.specs.declared.Call.{Call}
 use Rattle.calls.specs.declared.Call.the-variants as Call
-use Rattle.player.specs.Steps.{aloneOf, aloneCall, playing}
+use Rattle.alone.specs.Calls.{aloneCall}
+use Rattle.player.specs.Steps.{aloneOf, playing}
 
 -- the records and the tables of a stripe
 abbrev stripe : List Node → List Client → List ℕ → List ℕ → List ℕ → Stripe
@@ -83,14 +84,6 @@ alone-step z Alones.Settle c s = refl
 alone-step z Alones.Unlock c s = refl
 alone-step z Alones.Quit c s = refl
 alone-step z Alones.Stop c s = refl
-
--- a call that is refused and leaves all unchanged
-module _ (s : Stripe) (why : Refusal) where
-  refused-at : (j c : ℕ) (call : Local → Outcome Local) → call (atNode j c s) ≡ refused why (atNode j c s) → onNode j c call s ≡ refused why s
-  refused-at j c call e = ap (λ o. answered (o .answer) (putNode j c (o .after) s)) e ∙ ap (answered _) (put-back j c s)
-
-  refused-on : (c : ℕ) (call : Whole → Outcome Whole) → call (whole c s) ≡ refused why (whole c s) → onWhole c call s ≡ refused why s
-  refused-on c call e = ap (λ o. answered (o .answer) (putWhole c (o .after) s)) e ∙ ap (answered _) (put-whole-back c s)
 
 -- with sizes outside the limits every call is
 pub outside : (z : Sizes) (call : Call) (value shown : List ℕ) (s : Stripe) → sizesWithin z ≡ false → refused OutOfLimits s ≡ playing z call value shown s

@@ -5,19 +5,17 @@ use mathlib.Core.Path.{_≡_}
 use Prim.Native.Nat.{ℕ}
 use lib.Dec.{eqb}
 use lib.ListN.{length}
-use Rattle.machine.specs.Stripe.{Outcome, Whole, answered, guard}
+use Rattle.machine.specs.Stripe.{Outcome, answered, guard}
 use Rattle.machine.specs.Stripe as Machine
 use Rattle.machine.specs.Calls as Calls
-use Rattle.machine.specs.Writing as Writing
-use Rattle.machine.specs.Rebuild as Rebuild
 use Rattle.records.specs.declared.Sizes.{Sizes}
 use Rattle.records.specs.declared.Refusal.the-variants.{OutOfLimits}
 use Rattle.answers.specs.declared.Answer.{Answer}
 use Rattle.answers.specs.Answers.{answerOf}
 use Rattle.calls.specs.declared.Call.{Call}
 use Rattle.calls.specs.declared.Call.the-variants.{Read, Swap, Add, Check, Drop, Sweep, Stop, Fail, Lock, Pick, Weaken, Tighten, Write, Settle, Unlock, Quit}
-use Rattle.player.specs.declared.on_stripe.Alone.{Alone}
-use Rattle.player.specs.declared.on_stripe.Alone.the-variants as Alones
+use Rattle.alone.specs.declared.Alone.{Alone}
+use Rattle.alone.specs.declared.Alone.the-variants as Alones
 
 -- the calls on all records that are lent no table
 abbrev pub aloneOf : Alone → ℕ → Calls.Call
@@ -28,15 +26,6 @@ aloneOf Alones.Settle c = Calls.Settle c
 aloneOf Alones.Unlock c = Calls.Unlock c
 aloneOf Alones.Quit c = Calls.Quit c
 aloneOf Alones.Stop c = Calls.Stop c
-
-abbrev pub aloneCall : Alone → Sizes → ℕ → Whole → Outcome Whole
-aloneCall Alones.Lock = Rebuild.lock
-aloneCall Alones.Weaken = Rebuild.weaken
-aloneCall Alones.Tighten = Rebuild.tighten
-aloneCall Alones.Settle = Rebuild.settle
-aloneCall Alones.Unlock = Rebuild.unlock
-aloneCall Alones.Quit = Rebuild.quit
-aloneCall Alones.Stop = Writing.stop
 
 -- a read shows its block in a buffer of B bytes. "1: .. buffer length outside the limits"
 abbrev pub playing : Sizes → Call → List ℕ → List ℕ → Machine.Stripe → Outcome Machine.Stripe

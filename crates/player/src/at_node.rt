@@ -109,19 +109,6 @@ pub fn add(z: Sizes, c: u8, j: u8, stripe: Stripe, blocks: &mut [u8], difference
     put(z, c, j, stripe, r)
 }
 
-// The node of the round's next sweep.
-fn sweep_node(z: Sizes, client: ClientRecord) -> u8
-    requires { ⌜ (1 ≤ z .n) × (z .n ≤ 18) ⌝ }
-    ensures { λ r. ⌜ r ≡ sweepNode z (clientOf client) ⌝ }
-{
-    let round = client.round;
-    if (round as usize) < z.n {
-        round + 1
-    } else {
-        round - z.n as u8 + 1
-    }
-}
-
 pub fn sweep(z: Sizes, c: u8, stripe: Stripe) -> Played
     requires { ⌜ sizesWithin z ≡ true ⌝ }
     ensures { λ r. ⌜ ((blocks spare differences : List ℕ) →
@@ -131,7 +118,7 @@ pub fn sweep(z: Sizes, c: u8, stripe: Stripe) -> Played
     let nodes = stripe.nodes;
     let clients = stripe.clients;
     let client = clients.get(z.m, c);
-    let j = sweep_node(z, client);
+    let j = client.sweep_node(z.n);
     let node = nodes::get(nodes, z.n, j);
     let r = upkeep::sweep(z, c, node, client);
     put(z, c, j, stripe, r)

@@ -7,27 +7,16 @@ ghost use Rattle.machine.specs.Stripe.{setAt};
 ghost use Rattle.machine.specs.Calls.{step};
 ghost use Rattle.records.specs.Sizes.{sizesWithin};
 ghost use Rattle.records.specs.View.{clientOf};
-ghost use Rattle.entrance.specs.Contracts.{PlaysAlone};
 ghost use Rattle.player.specs.View.{clientsOf, stripeOf};
-ghost use Rattle.player.specs.Steps.{Says, aloneOf, aloneCall, playing};
+ghost use Rattle.player.specs.Steps.{Says, aloneOf, playing};
 use crate::Played;
 use crate::Stripe;
+use alone::Alone;
 use calls::Call;
 use entrance::OnStripe;
 use records::ClientRecord;
 use records::Sizes;
 use stripe::Nodes;
-
-// The calls that are lent no table.
-pub enum Alone {
-    Lock,
-    Weaken,
-    Tighten,
-    Settle,
-    Unlock,
-    Quit,
-    Stop,
-}
 
 // What a call on the whole stripe answered and left.
 fn put(z: Sizes, c: u8, stripe: Stripe, r: OnStripe) -> Played
@@ -48,20 +37,6 @@ fn put(z: Sizes, c: u8, stripe: Stripe, r: OnStripe) -> Played
     }
 }
 
-fn make(z: Sizes, c: u8, which: Alone, nodes: Nodes, client: ClientRecord) -> OnStripe
-    ensures { λ r. ⌜ PlaysAlone (aloneCall which) z c nodes client r ⌝ }
-{
-    match which {
-        Alone::Lock => locking::lock(z, c, nodes, client),
-        Alone::Weaken => picking::weaken(z, c, nodes, client),
-        Alone::Tighten => locking::tighten(z, c, nodes, client),
-        Alone::Settle => ending::settle(z, c, nodes, client),
-        Alone::Unlock => locking::unlock(z, c, nodes, client),
-        Alone::Quit => ending::quit(z, c, nodes, client),
-        Alone::Stop => ending::stop(z, c, nodes, client),
-    }
-}
-
 pub fn play_alone(z: Sizes, c: u8, which: Alone, stripe: Stripe) -> Played
     requires { ⌜ sizesWithin z ≡ true ⌝ }
     ensures { λ r. ⌜ ((blocks spare differences : List ℕ) →
@@ -71,7 +46,7 @@ pub fn play_alone(z: Sizes, c: u8, which: Alone, stripe: Stripe) -> Played
     let nodes = stripe.nodes;
     let clients = stripe.clients;
     let client = clients.get(z.m, c);
-    let r = make(z, c, which, nodes, client);
+    let r = alone::play(z, c, which, nodes, client);
     put(z, c, stripe, r)
 }
 

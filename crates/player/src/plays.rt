@@ -8,7 +8,7 @@ use crate::Played;
 use crate::Stripe;
 use crate::at_node;
 use crate::on_stripe;
-use crate::on_stripe::Alone;
+use alone::Alone;
 use answers::Answer;
 use calls::Call;
 use records::Refusal;

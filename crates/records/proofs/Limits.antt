@@ -7,7 +7,7 @@ use Prim.Native.Nat.{ℕ, zero, suc, _+_, _≤_, _<_}
 use native.Mathlib.Numerals.{add-one}
 use native.Mathlib.Omega.{arith}
 use lib.Dec.{leb}
-use borrow.Author.Tests.{le-leb, ltb-true}
+use borrow.Author.Tests.{le-leb, leb-true, ltb-true}
 use lib.ListN.{length, getD, drop, drop-of-length-le}
 use lib.Seq.{drop-cons}
 use Rattle.gf256.proofs.Computed.{and-left, and-right}
@@ -19,10 +19,13 @@ use Rattle.records.specs.declared.Lmode.{Lmode}
 use Rattle.records.specs.declared.Lmode.the-variants.{Unl, L0, L1, Exp}
 use Rattle.records.specs.declared.Holder.the-variants as Holder
 use Rattle.records.specs.declared.WriteId.{WriteId}
+use Rattle.records.specs.declared.NodeRecord.{NodeRecord}
 use Rattle.records.specs.Sizes.{sizesWithin, isClient}
-use Rattle.records.specs.Node.{isL0, isL1, holderWithin, setWithin}
+use Rattle.records.specs.Node.{isL0, isL1, holderWithin, setWithin, nodeWithin}
 use Rattle.records.specs.Client.{Client, Write, finishedLimit, handWithin, rebuildWithin, idsWithin, clientWithin}
 use Rattle.records.specs.ClientSteps.{listsWithin}
+use Rattle.records.specs.View.{entriesOf, nodeOf}
+use Rattle.records.proofs.Lists.{entries-count}
 
 -- no holder where nobody can be one; a client where there is one
 pub nobody-within : (z : Sizes) (l : Lmode) → not (isL0 l || isL1 l) ≡ holderWithin z l Holder.Nobody
@@ -85,3 +88,10 @@ client-tests z x =
     beside : (h r l f m i w : Bool) → (h ≡ true → l ≡ true) → (h && (r && (f && (m && (i && w))))) ≡ (h && (r && ((l && f) && ((m && i) && w))))
     beside true r l f m i w e = rw (e refl, and-assoc m i w)
     beside false r l f m i w e = refl
+
+-- a record within the limits has few entries
+pub few-entries : (z : Sizes) (x : NodeRecord) → nodeWithin z (nodeOf x) ≡ true → x .entries .count ≤ 16
+unfolding nodeWithin
+few-entries z x e =
+    let few : length (entriesOf (x .entries)) ≤ 16 = search (and-left, and-right, leb-true) in
+    omega (arith, entries-count (x .entries))

@@ -8,7 +8,7 @@ use native.Mathlib.Nat.{eq-or-lt-of-le, le-of-suc-le-suc}
 use native.Mathlib.Numerals.{add-one}
 use native.Mathlib.Omega.{arith}
 use lib.Dec.{leb}
-use lib.ListN.{length, getD, set, length-append, length-map}
+use lib.ListN.{length, getD, set, length-append, length-map, length-set}
 use lib.Seq.{getD-set-same, getD-set-other}
 use Rattle.blocks.specs.Blocks.{listOf}
 use Rattle.blocks.proofs.Tables.{length-listOf, listOf-cong}
@@ -27,7 +27,7 @@ use Rattle.records.specs.declared.node_entries.EntryChange.the-variants 
 use Rattle.records.specs.Entries.{isRecent, isIn, isListed, isRecentIn, isOldIn, lastRecent, lastRecentAfter, newEntry, aged, discard, markOld, someDue}
 use Rattle.records.specs.Node.{idWithin, entriesWithin}
 use Rattle.records.specs.Client.{idsWithin}
-use Rattle.records.specs.Lists.{idPasses, someIdPasses, passes, somePasses, isKept, offered, changed, lastRecentOf}
+use Rattle.records.specs.Lists.{idPasses, someIdPasses, passes, somePasses, olderEntry, isKept, offered, changed, lastRecentOf}
 use Rattle.records.specs.View.{blankId, idsOf, entriesOf}
 
 pub listOf-more : {A : Type 0} (i : ℕ) (at : ℕ → A) → listOf (i + 1) at ≡ listOf i at ++ (at i ∷ [])
@@ -40,11 +40,6 @@ ids-count s = length-listOf (s .count) (λ i. getD (s .items) i blankId)
 
 pub entries-count : (s : Entries) → length (entriesOf s) ≡ s .count
 entries-count s = length-listOf (s .count) (λ i. getD (s .items) i (newEntry blankId))
-
-pub aged-count : (es : List Entry) → length (aged es) ≡ length es
-unfolding aged
-aged-count [] = refl
-aged-count (e ∷ es) = ap suc (aged-count es)
 
 -- what owning an array tells of its list's length is told of the elements' machine values
 pub length-array : {A B : Type 0} (f : A → B) (l : List A) (n : ℕ) → length (map f l) ≡ n → length l ≡ n
@@ -137,7 +132,7 @@ entries-search (EntryTest.Outside z) = record {
 module _ (c : EntryChange) (ids : List WriteId) where
   -- the first entry, and the rest
   changed-more : (e : Entry) (es : List Entry) → changed c ids (e ∷ es) ≡ offered c ids e ++ changed c ids es
-  unfolding aged discard markOld
+  unfolding discard markOld
   changed-more e es = go c
     where
       kept : (b : Bool) (rest : List Entry) → cond b rest (e ∷ rest) ≡ cond (not b) (e ∷ []) [] ++ rest
@@ -145,16 +140,14 @@ module _ (c : EntryChange) (ids : List WriteId) where
       kept false rest = refl
 
       go : (d : EntryChange) → changed d ids (e ∷ es) ≡ offered d ids e ++ changed d ids es
-      go EntryChange.Age = refl
       go EntryChange.Mark = refl
       go EntryChange.Discard = kept (not (isRecent e) && isIn (e .id) ids) (discard ids es)
 
   pub changed-none : changed c ids [] ≡ []
-  unfolding aged discard markOld
+  unfolding discard markOld
   changed-none = go c
     where
       go : (d : EntryChange) → changed d ids [] ≡ []
-      go EntryChange.Age = refl
       go EntryChange.Mark = refl
       go EntryChange.Discard = refl
 
@@ -175,7 +168,6 @@ module _ (c : EntryChange) (ids : List WriteId) where
       kept false = omega arith
 
       go : (d : EntryChange) → length (offered d ids e) ≤ 1
-      go EntryChange.Age = omega arith
       go EntryChange.Mark = omega arith
       go EntryChange.Discard = kept (isKept ids e)
 
@@ -206,6 +198,40 @@ module _ {c : EntryChange} {ids : List WriteId} {at : ℕ → Entry} {out : Entr
 
     pub change-end : n ≤ i → entriesOf out ≡ changed c ids (listOf n at)
     change-end h = let e : i ≡ n = omega arith in rw e at (q .is)
+
+-- ---- a loop that ages the entries in their places
+
+aged-last : (es : List Entry) (e : Entry) → aged (es ++ (e ∷ [])) ≡ aged es ++ (olderEntry e ∷ [])
+unfolding aged
+aged-last [] e = refl
+aged-last (x ∷ es) e = ap (λ l. olderEntry x ∷ l) (aged-last es e)
+
+-- the first i of n entries are older, the others as they were
+pub record Aged (d : Entry) (old now : List Entry) (i n : ℕ) : Type 0 where
+  pub within : i ≤ n
+  pub room : n ≤ length now
+  pub is : listOf i (λ p. getD now p d) ≡ aged (listOf i (λ p. getD old p d))
+  pub others : (p : ℕ) → i ≤ p → getD now p d ≡ getD old p d
+
+module _ {d : Entry} {old : List Entry} {n : ℕ} where
+  pub age-start : n ≤ length old → Aged d old old 0 n
+  unfolding listOf aged
+  age-start h = record { within = omega arith; room = h; is = refl; others = λ p l. refl }
+
+  module _ {now : List Entry} {i : ℕ} (q : Aged d old now i n) where
+    pub age-on : {r : Entry} → i < n → r ≡ olderEntry (getD now i d) → Aged d old (set now i r) (i + 1) n
+    age-on {r} h e = record {
+      within = omega arith;
+      room = omega (arith, length-set now i r, q .room);
+      is =
+          listOf-push now i r d (omega (arith, q .room))
+          ∙ ap₂ (λ l x. l ++ (x ∷ [])) (q .is) (e ∙ ap olderEntry (q .others i (omega arith)))
+          ∙ sym (ap aged (listOf-more i (λ p. getD old p d)) ∙ aged-last (listOf i (λ p. getD old p d)) (getD old i d));
+      others = λ p l. getD-set-other now i p r d (λ z. omega arith) ∙ q .others p (omega arith);
+    }
+
+    pub age-end : n ≤ i → listOf n (λ p. getD now p d) ≡ aged (listOf n (λ p. getD old p d))
+    age-end h = let e : i ≡ n = omega arith in rw e at (q .is)
 
 -- ---- a loop that remembers the last recent id
 

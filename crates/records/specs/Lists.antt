@@ -12,8 +12,8 @@ use Rattle.records.specs.declared.write_ids.IdTest.the-variants as IdTes
 use Rattle.records.specs.declared.node_entries.EntryTest.{EntryTest}
 use Rattle.records.specs.declared.node_entries.EntryTest.the-variants.{Of, RecentOf, OldOf, Due, Outside}
 use Rattle.records.specs.declared.node_entries.EntryChange.{EntryChange}
-use Rattle.records.specs.declared.node_entries.EntryChange.the-variants.{Age, Mark, Discard}
-use Rattle.records.specs.Entries.{sameId, isRecent, isIn, isListed, isRecentIn, isOldIn, older, aged, discard, markOld, someDue}
+use Rattle.records.specs.declared.node_entries.EntryChange.the-variants.{Mark, Discard}
+use Rattle.records.specs.Entries.{sameId, isRecent, isIn, isListed, isRecentIn, isOldIn, older, discard, markOld, someDue}
 use Rattle.records.specs.Node.{idWithin, entriesWithin}
 use Rattle.records.specs.Client.{idsWithin}
 
@@ -53,12 +53,10 @@ isKept ids e = not (not (isRecent e) && isIn (e .id) ids)
 
 -- what the change leaves of an entry, and of the list
 abbrev pub offered : EntryChange → List WriteId → Entry → List Entry
-offered Age ids e = olderEntry e ∷ []
 offered Mark ids e = markedEntry ids e ∷ []
 offered Discard ids e = cond (isKept ids e) (e ∷ []) []
 
 abbrev pub changed : EntryChange → List WriteId → List Entry → List Entry
-changed Age ids es = aged es
 changed Mark ids es = markOld ids es
 changed Discard ids es = discard ids es
 

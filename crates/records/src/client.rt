@@ -320,7 +320,7 @@ impl ClientRecord {
 
     // The node of the round's next sweep.
     pub fn sweep_node(self, n: usize) -> u8
-        requires { ⌜ (self .round < 2 * n) × (n ≤ 18) ⌝ }
+        requires { ⌜ (1 ≤ n) × (n ≤ 18) ⌝ }
         ensures { λ r. ⌜ r ≡ cond (ltb (self .round) n) (self .round + 1) (self .round - n + 1) ⌝ }
     {
         let round = self.round;

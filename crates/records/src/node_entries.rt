@@ -5,7 +5,7 @@ ghost use mathlib.Core.Path.{_≡_};
 ghost use Prim.Native.Nat.{_<_, _≤_};
 ghost use lib.Dec.{leb};
 ghost use lib.ListN.{length};
-ghost use Rattle.records.specs.Entries.{isRecent, isListed, isRecentIn, isOldIn, lastRecent, previousRecent, newEntry, enter, discard, markOld, someDue};
+ghost use Rattle.records.specs.Entries.{isRecent, isListed, isRecentIn, isOldIn, lastRecent, previousRecent, newEntry, aged, enter, discard, markOld, someDue};
 ghost use Rattle.records.specs.Node.{entryLimit, entriesWithin};
 ghost use Rattle.records.specs.Lists.{passes, somePasses, olderEntry, markedEntry, isKept, offered, changed, lastRecentOf};
 ghost use Rattle.records.specs.View.{idsOf, entriesOf};
@@ -27,9 +27,8 @@ pub enum EntryTest {
     Outside(Sizes),
 }
 
-// What a call does to each entry of a list; marking and discarding go by a list of ids.
+// What a call does to each entry of a list, by a list of ids.
 pub enum EntryChange {
-    Age,
     Mark,
     Discard,
 }
@@ -235,7 +234,6 @@ impl Entries {
         ensures { λ r. ⌜ entriesOf r ≡ entriesOf self ++ offered change (idsOf ids) e ⌝ }
     {
         match change {
-            EntryChange::Age => self.push(e.older()),
             EntryChange::Mark => self.push(e.marked(ids)),
             EntryChange::Discard => { if e.is_kept(ids) { self.push(e) } else { self } }
         }
@@ -257,13 +255,31 @@ impl Entries {
         out
     }
 
+    // Every entry older, each in its place: a list built anew would be copied at each entry.
+    fn older(self) -> Self
+        requires { ⌜ self .count ≤ 16 ⌝ }
+        ensures { λ r. ⌜ (r .count ≡ self .count) × (entriesOf r ≡ aged (entriesOf self)) ⌝ }
+    {
+        let n = self.count;
+        let mut items = self.items;
+        let mut i = 0;
+        while i < n {
+            let e = items[i];
+            items[i] = e.older();
+            i += 1;
+        }
+        Entries {
+            items: items,
+            count: n,
+        }
+    }
+
     // Every entry older, and the id entered as recent.
     pub fn enter(self, id: WriteId) -> Self
         requires { ⌜ self .count < 16 ⌝ }
         ensures { λ r. ⌜ entriesOf r ≡ enter id (entriesOf self) ⌝ }
     {
-        let older = self.changed(EntryChange::Age, Ids::none());
-        older.push(Entry::new(id))
+        self.older().push(Entry::new(id))
     }
 
     pub fn mark_old(self, ids: Ids) -> Self

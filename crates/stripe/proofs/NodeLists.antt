@@ -8,7 +8,6 @@ use native.Mathlib.Decide.{ℕ-discrete}
 use native.Mathlib.Omega.{arith}
 use lib.ListN.{length, getD, set, length-set, length-map, List·getD-eq-default}
 use lib.Seq.{ext-getD, getD-set-same, getD-set-other}
-use borrow.Author.Tests.{leb-true}
 use denote.Laws.{Is}
 use denote.Struct.Declared.{row}
 use mir.Val.{Val}
@@ -20,8 +19,9 @@ use Rattle.records.specs.declared.NodeRecord.{NodeRecord}
 use Rattle.records.specs.declared.Sizes.{Sizes}
 use Rattle.machine.specs.Rebuild.{countInit, largestEpoch}
 use Rattle.records.specs.Node.{Node, failedNode, isInit, nodeWithin}
-use Rattle.records.specs.View.{entriesOf, nodeOf}
-use Rattle.records.proofs.Lists.{Search, listOf-more, entries-count}
+use Rattle.records.specs.View.{nodeOf}
+use Rattle.records.proofs.Limits.{few-entries}
+use Rattle.records.proofs.Lists.{Search, listOf-more}
 use Rattle.stripe.specs.declared.nodes.Nodes.{Nodes}
 use Rattle.stripe.specs.View.{blankRecord, recordAt, nodesOf, Counted}
 use Rattle.stripe.proofs.nodes.Nodes.{the-type}
@@ -92,12 +92,6 @@ unfolding everyOf
 every-at p [] d i e h = absurd (omega arith)
 every-at p (x ∷ l) d zero e h = and-left (p x) (everyOf p l) e
 every-at p (x ∷ l) d (suc i) e h = every-at p l d i (and-right (p x) (everyOf p l) e) (omega arith)
-
-few-entries : (z : Sizes) (x : NodeRecord) → nodeWithin z (nodeOf x) ≡ true → x .entries .count ≤ 16
-unfolding nodeWithin
-few-entries z x e =
-    let few : length (entriesOf (x .entries)) ≤ 16 = search (and-left, and-right, leb-true) in
-    omega (arith, entries-count (x .entries))
 
 -- node records within the limits have few entries
 pub within-counted : (z : Sizes) (n : ℕ) (x : Nodes) → everyOf (nodeWithin z) (nodesOf n x) ≡ true → Counted n x

@@ -1,7 +1,7 @@
 -- The machine's check past its tests of limits and range: with no write in hand, at a node that is not done, by what the node tells. Assumes nothing.
 use mathlib.Core.Path.{_≡_, refl, sym, ap, _∙_}
 use mathlib.Core.Bool.{Bool, true, false, cond, not}
-use mathlib.Core.List.{List, []}
+use mathlib.Core.List.{[]}
 use mathlib.Core.Option.{some}
 use Prim.Native.Nat.{ℕ}
 use Rattle.code.specs.Decode.{has, excluding}

@@ -68,6 +68,18 @@ fn swap_bytes(b: usize, c: u8, i: u8, value: &[u8], blocks: &mut [u8], differenc
     blocks::swap_block(blocks, b, i as usize, &mut differences[a..e], value);
 }
 
+// The id of client c's next write, at position i.
+fn next_id(c: u8, i: u8, client: ClientRecord) -> WriteId
+    ensures { λ r. ⌜ r ≡ record { client = c; position = i; number = client .next } ⌝ }
+{
+    let number = client.next;
+    WriteId {
+        client: c,
+        position: i,
+        number: number,
+    }
+}
+
 // The client with the write in hand, by its node's record before the swap.
 fn begin(id: WriteId, node: NodeRecord, client: ClientRecord) -> ClientRecord
     requires { ⌜ (node .entries .count ≤ 16) × (client .next .0 < writeLimit) ⌝ }
@@ -116,12 +128,7 @@ pub fn swap(
     if is_busy(client) {
         return AtNode::refused(node, client, Refusal::OutOfPhase);
     }
-    let number = client.next;
-    let id = WriteId {
-        client: c,
-        position: i,
-        number: number,
-    };
+    let id = next_id(c, i, client);
     let step = node.swap(id);
     let answer = step.answer;
     if let NodeAnswer::Refused(why) = answer {

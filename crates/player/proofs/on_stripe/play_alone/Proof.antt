@@ -4,19 +4,19 @@ use borrow.Author.Needs.{needs}
 use Rattle.stripe.specs.View.{nodesOf}
 use Rattle.entrance.proofs.Limits.{clients-few}
 use Rattle.player.specs.View.{clientsOf, stripeOf}
-use Rattle.player.specs.Steps.{aloneCall}
+use Rattle.alone.specs.Calls.{aloneCall}
 use Rattle.player.proofs.Steps.{played-on, alone-step}
 use Rattle.player.proofs.on_stripe.play_alone.Statement.{statement}
 use Rattle.player.proofs.on_stripe.play_alone.Tie as tie
 
 returns : tie.Need-returns
 returns c =
-    let at-make = c .before in
-    let at-get = at-make .before in
+    let at-play = c .before in
+    let at-get = at-play .before in
     let args = at-get .before .before .before .args in
     λ blocks spare differences.
     played-on (nodesOf (args .z .n) (args .stripe .nodes)) (clientsOf (args .z .m) (args .stripe .clients)) (args .c) (aloneCall (args .which) (args .z) (args .c))
-    (at-get .get .ensures) (at-make .make .ensures blocks spare) (c .put .ensures .0) (ap (nodesOf (args .z .n)) (c .put .ensures .1 .0)) (c .put .ensures .1 .1)
+    (at-get .get .ensures) (at-play .play .ensures blocks spare) (c .put .ensures .0) (ap (nodesOf (args .z .n)) (c .put .ensures .1 .0)) (c .put .ensures .1 .1)
     ∙ alone-step (args .z) (args .which) (args .c) (stripeOf (args .z) (args .stripe) blocks spare differences)
 
 pub play-alone-spec : {M : Type 1} → statement M

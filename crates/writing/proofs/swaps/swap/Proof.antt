@@ -72,9 +72,10 @@ returns-7 c =
     let at-answer = at-room .before .before in
     let at-swap = at-answer .before .before in
     let accepts = sym (at-answer .enum-told .given .1) ∙ at-swap .swap .ensures .answered in
-    let entered = rw (at-answer .enum-told .given .1) at (at-swap .swap .ensures .left) in
+    let id = at-swap .before .next-id .ensures in
+    let entered = rw (at-answer .enum-told .given .1, id) at (at-swap .swap .ensures .left) in
     swap-accepted (ready (at-swap .before .before)) accepts (rw ids-count (at-room .if4 .left)) (at-number .if5 .left)
-    entered (c .begin .ensures) (at-bytes .swap-bytes .ensures .0) (at-bytes .swap-bytes .ensures .1)
+    entered (rw id at (c .begin .ensures)) (at-bytes .swap-bytes .ensures .0) (at-bytes .swap-bytes .ensures .1)
 
 swap-bytes-requires : tie.Need-swap-bytes-requires
 swap-bytes-requires c κs =
@@ -100,6 +101,7 @@ swap-spec =
     (λ c κs. search needs)
     (λ c κs. search needs)
     returns-3
+    (λ c κs. search needs)
     (λ c κs. search needs)
     (λ c. search needs)
     (λ c κs. search needs)

@@ -5,7 +5,8 @@ use borrow.Author.Needs.{needs}
 use Rattle.records.specs.Client.{freshClient}
 use Rattle.records.specs.View.{clientOf}
 use Rattle.player.specs.View.{blankClient, clientsOf}
-use Rattle.player.proofs.Items.{element-none, element-past, seen-count, seen-at}
+use Rattle.machine.proofs.Elements.{element-past}
+use Rattle.player.proofs.Items.{element-none, seen-count, seen-at}
 use Rattle.player.proofs.clients.Clients.get.Statement.{statement}
 use Rattle.player.proofs.clients.Clients.get.Tie as tie
 

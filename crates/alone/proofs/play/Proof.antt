@@ -1,10 +1,10 @@
 -- By cases of the call. Assumes nothing.
 use borrow.Author.Needs.{needs}
-use Rattle.player.proofs.on_stripe.make.Statement.{statement}
-use Rattle.player.proofs.on_stripe.make.Tie as tie
+use Rattle.alone.proofs.play.Statement.{statement}
+use Rattle.alone.proofs.play.Tie as tie
 
-pub make-spec : {M : Type 1} → statement M
-make-spec =
+pub play-spec : {M : Type 1} → statement M
+play-spec =
     tie.close
     (tie.spec
     (λ c. search needs)
