@@ -1,0 +1,4 @@
+pub mod Entry
+pub mod Lent
+pub mod Step
+pub mod Table
