@@ -8,21 +8,17 @@ each kind were accepted, how often each answer was given and how many rebuilds
 were finished; stops at the first difference with an error exit.
 """
 
-import io
 import itertools
 import multiprocessing
-import pathlib
 import random
-import subprocess
 import sys
 from collections import Counter
 
-sys.path.insert(0, str(pathlib.Path(__file__).parent.parent / "reference"))
-
-from lists import Author, stripe_author  # noqa: E402
-from script import FORMS, lines_of  # noqa: E402
-from stripe import Sizes  # noqa: E402
-from striperun import new_stripe, run  # noqa: E402
+from against import compared, in_order
+from lists import Author, stripe_author
+from script import FORMS
+from stripe import Sizes
+from striperun import new_stripe, run
 
 PROGRAM, SEED = sys.argv[1], int(sys.argv[2])
 
@@ -112,23 +108,10 @@ def damaged_script(seed, sizes):
     return script_of(sizes, author.lines(DAMAGED_CALLS))
 
 
-def compared(script):
-    """The output of both for the script, line by line."""
-    program = subprocess.run([PROGRAM], input=script, stdout=subprocess.PIPE, check=True).stdout
-    reference = "".join(line + "\n" for line in run(lines_of(io.BytesIO(script)))).encode()
-    if program == reference:
-        return reference.splitlines()
-    for at, (ours, theirs) in enumerate(zip(program.split(b"\n"), reference.split(b"\n"))):
-        if ours != theirs:
-            called = script.split(b"\n")[at + 1]
-            sys.exit(f"{called[:100]!r}, call {at + 1}: DIFFERENT\n{ours[:2000]!r}\n{theirs[:2000]!r}")
-    sys.exit("one output goes on: DIFFERENT")
-
-
 def counts(script):
     """Of each call how often it was accepted, of each answer, of finished rebuilds."""
     seen = Counter()
-    for line, output in zip(script.split(b"\n")[1:], compared(script)):
+    for line, output in zip(script.split(b"\n")[1:], compared([PROGRAM], run, script)):
         number, returned = output.split(b" ")[:2]
         seen["calls"] += 1
         seen["rebuilds"] += returned == b"rebuilt"
@@ -141,10 +124,6 @@ def counts(script):
 def play(job):
     make, seed, sizes = job
     return counts(make(seed, sizes))
-
-
-def in_order(seen, keys):
-    return ", ".join(f"{key} {seen[key]}" for key in keys if seen[key])
 
 
 def show(name, seen):

@@ -1,0 +1,29 @@
+-- The line that the reader tells is answered. Assumes nothing.
+use Rattle.shelfrun.proofs.Bytes.{line-answered, put-fits, small}
+use borrow.Author.Needs.{needs}
+use Rattle.shelfrun.proofs.feeding.end_line.Statement.{statement}
+use Rattle.shelfrun.proofs.feeding.end_line.Tie as tie
+
+returns : tie.Need-returns
+returns c =
+    let at-answer = c .before .before .before .before .before .before .before .before in
+    let at-finish = at-answer .before .before .before .before .before in
+    let args = at-finish .before .before .before .before .before .args in (
+      put-fits (at-answer .answer .ensures .text),
+      λ x k.
+          line-answered (small (args .stripe) (args .blocks .now) (args .spare .now) (args .differences .now)) (at-finish .finish .ensures) (at-answer .answer .ensures)
+          k,
+    )
+
+pub end-line-spec : {M : Type 1} → statement M
+end-line-spec =
+    tie.close
+    (tie.spec
+    (λ c κs. search needs)
+    (λ c. search needs)
+    (λ c κs. search needs)
+    (λ c. search needs)
+    (λ c. search needs)
+    (λ c. search needs)
+    (λ c. search needs)
+    returns)

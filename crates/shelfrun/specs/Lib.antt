@@ -1,0 +1,2 @@
+pub mod Shelfrun
+pub mod Feeding

@@ -1,0 +1,173 @@
+// A line answered: its call played, and the line of output.
+ghost use mathlib.Core.List.{List, [], _∷_, _++_};
+ghost use mathlib.Core.Option.{some};
+ghost use mathlib.Core.Path.{_≡_};
+ghost use Prim.Native.Nat.{ℕ, _≤_};
+ghost use lib.ListN.{length, take};
+ghost use Rattle.io.specs.Counts.{Counts};
+ghost use Rattle.answers.specs.Answers.{answerOf};
+ghost use Rattle.calls.specs.Calls.{callOf};
+ghost use Rattle.lines.specs.Reading.{callIn};
+ghost use Rattle.lines.specs.Writing.{Put};
+ghost use Rattle.machine.specs.Calls.{step};
+ghost use Rattle.machine.specs.Stripe.{answered};
+ghost use Rattle.player.specs.View.{stripeOf};
+ghost use Rattle.player.specs.Steps.{shownBy};
+ghost use Rattle.shelfrun.specs.Shelfrun.{output, sizes};
+ghost use Rattle.shelfrun.specs.Feeding.{Answers};
+use super::words;
+use answers::Answer;
+use calls::Call;
+use lines::reader::Line;
+use lines::writer;
+use lines::writer::Event;
+use lines::writer::Shown;
+use player::Stripe;
+use records::Sizes;
+
+// What a call is answered, the byte in the buffer that a read fills, and the records after it.
+pub struct Turn {
+    pub answer: Answer,
+    pub byte: u8,
+    pub stripe: Stripe,
+}
+
+// The records after a line, and how long its output is.
+pub struct Answered {
+    pub stripe: Stripe,
+    pub end: usize,
+}
+
+// The call on the stripe of shelfrun's sizes.
+fn play(
+    call: Call,
+    value: &[u8],
+    stripe: Stripe,
+    blocks: &mut [u8],
+    spare: &mut [u8],
+    differences: &mut [u8],
+) -> Turn
+    ensures { λ r. ⌜ answered (answerOf (r .answer) (shownBy call (r .byte ∷ [])))
+        (stripeOf sizes (r .stripe) (now (blocks .exit)) (now (spare .exit)) (now (differences .exit)))
+        ≡ step sizes (callOf call (now (value .entry)))
+        (stripeOf sizes stripe (now (blocks .entry)) (now (spare .entry)) (now (differences .entry))) ⌝ }
+{
+    let z = Sizes {
+        k: 2,
+        n: 4,
+        b: 1,
+        failures: 1,
+        m: 2,
+    };
+    let mut shown = [0u8; 1];
+    let played = player::play(
+        z,
+        call,
+        value,
+        stripe,
+        blocks,
+        spare,
+        differences,
+        &mut shown,
+    );
+    let answer = played.answer;
+    let after = played.stripe;
+    let byte = shown[0];
+    Turn {
+        answer: answer,
+        byte: byte,
+        stripe: after,
+    }
+}
+
+// The line of output of a call.
+fn print(number: u64, call: Call, answer: Answer, byte: u8, out: &mut [u8]) -> usize
+    requires { ⌜ 64 ≤ length (now out) ⌝ }
+    ensures { λ r. ⌜ ((value : List ℕ) →
+        Put (now (out .entry)) 0 (output number (some (callOf call value)) (answerOf answer (shownBy call (byte ∷ [])))) (now (out .exit)) r) ⌝ }
+{
+    let w = words::words_of(call, answer, byte);
+    let event = w.event;
+    let shown = w.shown;
+    writer::put_answer(out, number, event, answer.number(), shown)
+}
+
+fn answer_call(
+    number: u64,
+    call: Call,
+    value: &[u8],
+    stripe: Stripe,
+    blocks: &mut [u8],
+    spare: &mut [u8],
+    differences: &mut [u8],
+    out: &mut [u8],
+) -> Answered
+    requires { ⌜ 64 ≤ length (now out) ⌝ }
+    ensures { λ r. ⌜ Answers number (some (callOf call (now (value .entry))))
+        (stripeOf sizes stripe (now (blocks .entry)) (now (spare .entry)) (now (differences .entry)))
+        (now (out .entry)) (now (out .exit)) (r .end)
+        (stripeOf sizes (r .stripe) (now (blocks .exit)) (now (spare .exit)) (now (differences .exit))) ⌝ }
+{
+    let turn = play(call, value, stripe, blocks, spare, differences);
+    let answer = turn.answer;
+    let after = turn.stripe;
+    let end = print(number, call, answer, turn.byte, out);
+    Answered {
+        stripe: after,
+        end: end,
+    }
+}
+
+// As many bytes of the value as are counted, or all.
+fn counted(value: &[u8], count: usize) -> usize
+    ensures { λ r. ⌜ Counts r (now (value .entry)) ⌝ }
+    ensures { λ r. ⌜ take r (now (value .entry)) ≡ take count (now (value .entry)) ⌝ }
+{
+    if count < value.len() {
+        count
+    } else {
+        value.len()
+    }
+}
+
+// A line is answered, readable or not. A value has one byte; of a longer one it is enough to know that it is longer, and a 0 stands for the rest.
+pub fn answer(
+    number: u64,
+    line: Line,
+    value: u8,
+    stripe: Stripe,
+    blocks: &mut [u8],
+    spare: &mut [u8],
+    differences: &mut [u8],
+    out: &mut [u8],
+) -> Answered
+    requires { ⌜ 64 ≤ length (now out) ⌝ }
+    ensures { λ r. ⌜ Answers number (callIn line (value ∷ []))
+        (stripeOf sizes stripe (now (blocks .entry)) (now (spare .entry)) (now (differences .entry)))
+        (now (out .entry)) (now (out .exit)) (r .end)
+        (stripeOf sizes (r .stripe) (now (blocks .exit)) (now (spare .exit)) (now (differences .exit))) ⌝ }
+{
+    match line {
+        Line::Unreadable => {
+            let end = writer::put_answer(out, number, Event::None, 1, Shown::Nothing);
+            Answered {
+                stripe: stripe,
+                end: end,
+            }
+        }
+        Line::Play(call, count) => {
+            let bytes = [value, 0];
+            let n = counted(&bytes, count);
+            answer_call(
+                number,
+                call,
+                &bytes[..n],
+                stripe,
+                blocks,
+                spare,
+                differences,
+                out,
+            )
+        }
+    }
+}
