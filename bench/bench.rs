@@ -2,16 +2,14 @@
 //! block that it is multiplied into.
 use mezgaudre::{add_times, decode, encode, product, Answer};
 use std::hint::black_box;
-use std::time::{Duration, Instant};
+use timing::{aim, best_of, noise};
+
+mod timing;
 
 const K: usize = 12;
 const N: usize = 18;
 const LOST: usize = N - K;
 const LENGTHS: [usize; 3] = [64, 512, 4096];
-
-const WARM_UP: Duration = Duration::from_millis(50);
-const ROUND: Duration = Duration::from_millis(2);
-const ROUNDS: usize = 150;
 
 /// At place c the products of c with 0 to 255.
 type Rows = Vec<[u8; 256]>;
@@ -50,53 +48,15 @@ fn accepted(answer: Answer) {
     assert_eq!(answer, Answer::Accepted);
 }
 
-/// Bytes with no pattern.
-fn noise(length: usize) -> Vec<u8> {
-    let mut state = 1u64;
-    let mut next = || {
-        state = state
-            .wrapping_mul(6364136223846793005)
-            .wrapping_add(1442695040888963407);
-        (state >> 56) as u8
-    };
-    (0..length).map(|_| next()).collect()
-}
-
-/// How many calls of `work` make a round, found in the warm-up.
-fn calls_in_a_round(work: &mut impl FnMut()) -> u32 {
-    let started = Instant::now();
-    let mut calls = 0;
-    while started.elapsed() < WARM_UP {
-        work();
-        calls += 1;
-    }
-    calls * ROUND.as_millis() as u32 / WARM_UP.as_millis() as u32 + 1
-}
-
-/// Seconds that a call takes, over one round.
-fn round(work: &mut impl FnMut(), calls: u32) -> f64 {
-    let started = Instant::now();
-    (0..calls).for_each(|_| work());
-    started.elapsed().as_secs_f64() / calls as f64
-}
-
-/// A line of the table, on calls that multiply so many bytes: the best of many short rounds, which alternate between the two.
-/// Returns the library's GB/s and its ratio to the row loop.
+/// A line of the table, on calls that multiply so many bytes. Returns the library's GB/s and its ratio to the row loop.
 fn line(
     name: &str,
     b: usize,
     bytes: usize,
-    mut library: impl FnMut(),
-    mut row: impl FnMut(),
+    library: impl FnMut(),
+    row: impl FnMut(),
 ) -> (f64, f64) {
-    let library_calls = calls_in_a_round(&mut library);
-    let row_calls = calls_in_a_round(&mut row);
-    let mut best = [f64::INFINITY; 2];
-    for _ in 0..ROUNDS {
-        best[0] = best[0].min(round(&mut library, library_calls));
-        best[1] = best[1].min(round(&mut row, row_calls));
-    }
-    let [library, row] = best.map(|seconds| bytes as f64 / seconds / 1e9);
+    let [library, row] = best_of(library, row).map(|seconds| bytes as f64 / seconds / 1e9);
     let ratio = library / row;
     println!("{name:<24}{b:>6}{library:>12.2}{row:>12.2}{ratio:>8.2}");
     (library, ratio)
@@ -183,13 +143,6 @@ fn decode_6_lost(rows: &Rows, b: usize) -> (f64, f64) {
     };
     let row = || by_rows(black_box(&table), black_box(&mut row_out));
     line("decode 12+6, 6 lost", b, K * b * LOST, library, row)
-}
-
-fn aim(what: &str, measured: f64, least: f64) {
-    println!(
-        "{what}: {measured:.2}, aim {least}: {}",
-        if measured < least { "MISSED" } else { "met" }
-    );
 }
 
 fn main() {

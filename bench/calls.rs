@@ -1,0 +1,233 @@
+//! What a swap, an add and a whole rebuild cost, on records by value in the largest stripe. `callbench` repeats a swap or an add many
+//! times, so that crossing from Rust costs nothing; the leaf of a call is what moves the bytes of its block.
+use std::hint::black_box;
+use timing::{aim, best_of, noise};
+
+mod timing;
+
+const K: usize = 12;
+const N: usize = 18;
+const LOST: usize = N - K;
+const LENGTHS: [usize; 3] = [1, 512, 4096];
+const TIMES: usize = 256;
+
+#[link(name = "callbench", kind = "static")]
+extern "C" {
+    fn callbench_swap(
+        times: usize,
+        b: usize,
+        value: *const u8,
+        value_length: usize,
+        blocks: *mut u8,
+        blocks_length: usize,
+        differences: *mut u8,
+        differences_length: usize,
+    ) -> u8;
+    fn callbench_swap_leaf(
+        times: usize,
+        value: *const u8,
+        value_length: usize,
+        block: *mut u8,
+        block_length: usize,
+        difference: *mut u8,
+        difference_length: usize,
+    ) -> u8;
+    fn callbench_add(
+        times: usize,
+        b: usize,
+        value: *const u8,
+        value_length: usize,
+        blocks: *mut u8,
+        blocks_length: usize,
+        differences: *mut u8,
+        differences_length: usize,
+    ) -> u8;
+    fn callbench_add_leaf(
+        times: usize,
+        difference: *const u8,
+        difference_length: usize,
+        block: *mut u8,
+        block_length: usize,
+    ) -> u8;
+    fn callbench_rebuild(
+        b: usize,
+        blocks: *mut u8,
+        blocks_length: usize,
+        spare: *mut u8,
+        spare_length: usize,
+    ) -> u8;
+    fn callbench_encode(
+        b: usize,
+        data: *const u8,
+        data_length: usize,
+        redundant: *mut u8,
+        redundant_length: usize,
+    ) -> u8;
+}
+
+fn accepted(answer: u8) {
+    assert_eq!(answer, 0);
+}
+
+// Safety of the calls: a pointer and a length come from one slice, and what is lent as `&mut` overlaps nothing else.
+
+fn swap(b: usize, value: &[u8], blocks: &mut [u8], differences: &mut [u8]) {
+    accepted(unsafe {
+        callbench_swap(
+            TIMES,
+            b,
+            value.as_ptr(),
+            value.len(),
+            blocks.as_mut_ptr(),
+            blocks.len(),
+            differences.as_mut_ptr(),
+            differences.len(),
+        )
+    });
+}
+
+fn swap_leaf(value: &[u8], block: &mut [u8], difference: &mut [u8]) {
+    accepted(unsafe {
+        callbench_swap_leaf(
+            TIMES,
+            value.as_ptr(),
+            value.len(),
+            block.as_mut_ptr(),
+            block.len(),
+            difference.as_mut_ptr(),
+            difference.len(),
+        )
+    });
+}
+
+fn add(b: usize, value: &[u8], blocks: &mut [u8], differences: &mut [u8]) {
+    accepted(unsafe {
+        callbench_add(
+            TIMES,
+            b,
+            value.as_ptr(),
+            value.len(),
+            blocks.as_mut_ptr(),
+            blocks.len(),
+            differences.as_mut_ptr(),
+            differences.len(),
+        )
+    });
+}
+
+fn add_leaf(difference: &[u8], block: &mut [u8]) {
+    accepted(unsafe {
+        callbench_add_leaf(
+            TIMES,
+            difference.as_ptr(),
+            difference.len(),
+            block.as_mut_ptr(),
+            block.len(),
+        )
+    });
+}
+
+/// A whole rebuild after the failure of the first LOST nodes.
+fn rebuild(b: usize, blocks: &mut [u8], spare: &mut [u8]) {
+    accepted(unsafe {
+        callbench_rebuild(
+            b,
+            blocks.as_mut_ptr(),
+            blocks.len(),
+            spare.as_mut_ptr(),
+            spare.len(),
+        )
+    });
+}
+
+fn encode(b: usize, data: &[u8], redundant: &mut [u8]) {
+    accepted(unsafe {
+        callbench_encode(
+            b,
+            data.as_ptr(),
+            data.len(),
+            redundant.as_mut_ptr(),
+            redundant.len(),
+        )
+    });
+}
+
+/// A line of the table. Returns the leaf's share of the call.
+fn line(name: &str, b: usize, call: impl FnMut(), leaf: impl FnMut()) -> f64 {
+    let [call, leaf] = best_of(call, leaf).map(|seconds| seconds / TIMES as f64 * 1e9);
+    let share = leaf / call;
+    println!("{name:<8}{b:>6}{call:>12.0}{leaf:>12.0}{share:>8.2}");
+    share
+}
+
+fn measure_swap(b: usize) -> f64 {
+    let (value, mut blocks, mut differences) = (noise(b), noise(N * b), vec![0; b]);
+    let (mut leaf_block, mut leaf_difference) = (noise(b), vec![0; b]);
+    line(
+        "swap",
+        b,
+        || {
+            swap(
+                b,
+                black_box(&value),
+                black_box(&mut blocks),
+                black_box(&mut differences),
+            )
+        },
+        || {
+            swap_leaf(
+                black_box(&value),
+                black_box(&mut leaf_block),
+                black_box(&mut leaf_difference),
+            )
+        },
+    )
+}
+
+fn measure_add(b: usize) -> f64 {
+    let (value, mut blocks, mut differences) = (noise(b), vec![0; N * b], vec![0; b]);
+    let mut leaf_block = noise(b);
+    line(
+        "add",
+        b,
+        || {
+            add(
+                b,
+                black_box(&value),
+                black_box(&mut blocks),
+                black_box(&mut differences),
+            )
+        },
+        || add_leaf(black_box(&value), black_box(&mut leaf_block)),
+    )
+}
+
+/// A whole rebuild beside an encoding of the same data.
+fn measure_rebuild(b: usize) {
+    let mut word = noise(N * b);
+    let (data, redundant) = word.split_at_mut(K * b);
+    encode(b, data, redundant);
+    let mut blocks = word.clone();
+    blocks[..LOST * b].fill(0xA5);
+    let mut spare = vec![0; N * b];
+    rebuild(b, &mut blocks, &mut spare);
+    assert_eq!(blocks, word);
+    let mut out = vec![0; (N - K) * b];
+    let [rebuilt, encoded] = best_of(
+        || rebuild(b, black_box(&mut blocks), black_box(&mut spare)),
+        || encode(b, black_box(&word[..K * b]), black_box(&mut out)),
+    )
+    .map(|seconds| seconds * 1e6);
+    println!("A rebuild of 12+6 at {b}, 6 lost: {rebuilt:.1} microseconds; an encoding of the same data: {encoded:.1}");
+    println!("rebuild beside encode, ratio: {:.2}", rebuilt / encoded);
+}
+
+fn main() {
+    println!("ns            B      a call    its leaf   share");
+    let [_, _, swapped] = LENGTHS.map(measure_swap);
+    let [_, _, added] = LENGTHS.map(measure_add);
+    println!("The node's record goes from call to call, its list having 0 to 15 entries. All buffers stay in the cache.");
+    measure_rebuild(4096);
+    aim("swap at 4096, the leaf's share", swapped, 0.8);
+    aim("add at 4096, the leaf's share", added, 0.8);
+}

@@ -1,0 +1,55 @@
+//! Times of two things to compare, measured in many short rounds that alternate between the two.
+use std::time::{Duration, Instant};
+
+const WARM_UP: Duration = Duration::from_millis(50);
+const ROUND: Duration = Duration::from_millis(2);
+const ROUNDS: usize = 150;
+
+/// Bytes with no pattern.
+pub fn noise(length: usize) -> Vec<u8> {
+    let mut state = 1u64;
+    let mut next = || {
+        state = state
+            .wrapping_mul(6364136223846793005)
+            .wrapping_add(1442695040888963407);
+        (state >> 56) as u8
+    };
+    (0..length).map(|_| next()).collect()
+}
+
+/// How many calls of `work` make a round, found in the warm-up.
+fn calls_in_a_round(work: &mut impl FnMut()) -> u32 {
+    let started = Instant::now();
+    let mut calls = 0;
+    while started.elapsed() < WARM_UP {
+        work();
+        calls += 1;
+    }
+    calls * ROUND.as_millis() as u32 / WARM_UP.as_millis() as u32 + 1
+}
+
+/// Seconds that a call takes, over one round.
+fn round(work: &mut impl FnMut(), calls: u32) -> f64 {
+    let started = Instant::now();
+    (0..calls).for_each(|_| work());
+    started.elapsed().as_secs_f64() / calls as f64
+}
+
+/// Seconds that a call of each takes: the best of all rounds.
+pub fn best_of(mut one: impl FnMut(), mut other: impl FnMut()) -> [f64; 2] {
+    let one_calls = calls_in_a_round(&mut one);
+    let other_calls = calls_in_a_round(&mut other);
+    let mut best = [f64::INFINITY; 2];
+    for _ in 0..ROUNDS {
+        best[0] = best[0].min(round(&mut one, one_calls));
+        best[1] = best[1].min(round(&mut other, other_calls));
+    }
+    best
+}
+
+pub fn aim(what: &str, measured: f64, least: f64) {
+    println!(
+        "{what}: {measured:.2}, aim {least}: {}",
+        if measured < least { "MISSED" } else { "met" }
+    );
+}

@@ -1,0 +1,16 @@
+// The calls many times over, for the benchmark to time. Each function answers the number of its last call's answer: 0 if all were accepted.
+mod rebuilds; // rebuilds.rt: a whole rebuild, and a plain encoding
+mod writes; // writes.rt: swaps and adds, and the block leaf of each
+
+use records::Sizes;
+
+// The largest stripe, with blocks of b bytes and one client.
+fn sizes(b: usize) -> Sizes {
+    Sizes {
+        k: 12,
+        n: 18,
+        b: b,
+        failures: 6,
+        m: 1,
+    }
+}

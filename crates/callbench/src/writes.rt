@@ -1,0 +1,135 @@
+// Swaps at node 1 and adds at node 13, and the block leaf of each.
+use crate::sizes;
+use answers::Answer;
+use answers::AtNode;
+use records::ClientRecord;
+use records::Entries;
+use records::NodeRecord;
+use records::Sizes;
+
+// What a call is made on: records, after the answer of the call before.
+fn fresh() -> AtNode {
+    let node = NodeRecord::fresh();
+    let client = ClientRecord::fresh();
+    AtNode {
+        answer: Answer::Accepted,
+        node: node,
+        client: client,
+    }
+}
+
+// The node's record after the last call, or where its list is full that of the start.
+fn node_after(start: AtNode, last: AtNode) -> NodeRecord {
+    if last.node.entries.count < Entries::LIMIT {
+        last.node
+    } else {
+        start.node
+    }
+}
+
+// A swap after the last call, unless that was refused, by the client of the start.
+fn swap(
+    z: Sizes,
+    value: &[u8],
+    start: AtNode,
+    last: AtNode,
+    blocks: &mut [u8],
+    differences: &mut [u8],
+) -> AtNode {
+    let answer = last.answer;
+    if answer.number() != 0 {
+        return last;
+    }
+    let node = node_after(start, last);
+    let client = start.client;
+    writing::swap(z, 1, 1, value, node, client, blocks, differences)
+}
+
+#[no_mangle]
+pub extern "C" fn callbench_swap(
+    times: usize,
+    b: usize,
+    value: &[u8],
+    blocks: &mut [u8],
+    differences: &mut [u8],
+) -> u8 {
+    let z = sizes(b);
+    let start = fresh();
+    let mut last = start;
+    for _ in 0..times {
+        last = swap(z, value, start, last, blocks, differences);
+    }
+    let answer = last.answer;
+    answer.number()
+}
+
+// The block leaf of a swap.
+#[no_mangle]
+pub extern "C" fn callbench_swap_leaf(
+    times: usize,
+    value: &[u8],
+    block: &mut [u8],
+    difference: &mut [u8],
+) -> u8 {
+    if block.len() != value.len() {
+        return 1;
+    }
+    if difference.len() != value.len() {
+        return 1;
+    }
+    for _ in 0..times {
+        blocks::swap(block, difference, value);
+    }
+    0
+}
+
+// The same of an add at node 13.
+fn add(z: Sizes, start: AtNode, last: AtNode, blocks: &mut [u8], differences: &[u8]) -> AtNode {
+    let answer = last.answer;
+    if answer.number() != 0 {
+        return last;
+    }
+    let node = node_after(start, last);
+    let client = start.client;
+    writing::add(z, 1, 13, node, client, blocks, differences)
+}
+
+// A fresh node, and a client with a write in hand that is done at node 1.
+fn begun(z: Sizes, value: &[u8], blocks: &mut [u8], differences: &mut [u8]) -> AtNode {
+    let start = fresh();
+    let node = start.node;
+    let mut begun = swap(z, value, start, start, blocks, differences);
+    begun.node = node;
+    begun
+}
+
+#[no_mangle]
+pub extern "C" fn callbench_add(
+    times: usize,
+    b: usize,
+    value: &[u8],
+    blocks: &mut [u8],
+    differences: &mut [u8],
+) -> u8 {
+    let z = sizes(b);
+    let start = begun(z, value, blocks, differences);
+    let mut last = start;
+    for _ in 0..times {
+        last = add(z, start, last, blocks, differences);
+    }
+    let answer = last.answer;
+    answer.number()
+}
+
+// The block leaf of an add.
+#[no_mangle]
+pub extern "C" fn callbench_add_leaf(times: usize, difference: &[u8], block: &mut [u8]) -> u8 {
+    if block.len() != difference.len() {
+        return 1;
+    }
+    let c = code::coefficient(13, 1);
+    for _ in 0..times {
+        blocks::add_times(block, difference, c);
+    }
+    0
+}
