@@ -12,6 +12,7 @@ use lib.ListN.{length, getD, set, length-append, length-map, length-set}
 use lib.Seq.{getD-set-same, getD-set-other}
 use Rattle.blocks.specs.Blocks.{listOf}
 use Rattle.blocks.proofs.Tables.{length-listOf, listOf-cong}
+use Rattle.records.specs.declared.Sizes.{Sizes}
 use Rattle.records.specs.declared.WriteId.{WriteId}
 use Rattle.records.specs.declared.Entry.{Entry}
 use Rattle.records.specs.declared.Ids.{Ids}
@@ -27,7 +28,7 @@ use Rattle.records.specs.declared.node_entries.EntryChange.the-variants 
 use Rattle.records.specs.Entries.{isRecent, isIn, isListed, isRecentIn, isOldIn, lastRecent, lastRecentAfter, newEntry, aged, discard, markOld, someDue}
 use Rattle.records.specs.Node.{idWithin, entriesWithin}
 use Rattle.records.specs.Client.{idsWithin}
-use Rattle.records.specs.Lists.{idPasses, someIdPasses, passes, somePasses, olderEntry, isKept, offered, changed, lastRecentOf}
+use Rattle.records.specs.Lists.{idPasses, someIdPasses, passes, somePasses, isOutside, olderEntry, isKept, offered, changed, lastRecentOf}
 use Rattle.records.specs.View.{blankId, idsOf, entriesOf}
 
 pub listOf-more : {A : Type 0} (i : ℕ) (at : ℕ → A) → listOf (i + 1) at ≡ listOf i at ++ (at i ∷ [])
@@ -114,12 +115,15 @@ ids-search (IdTest.Is y) = record { none = refl; more = λ x ids. refl }
 ids-search (IdTest.Outside z) = record { none = refl; more = λ x ids. not-and (idWithin z x) (idsWithin z ids) }
 
 pub entries-search : (t : EntryTest) → Search (passes t) (somePasses t)
-unfolding isListed isRecentIn isOldIn someDue entriesWithin
+unfolding isListed isRecentIn isOldIn someDue
 entries-search (EntryTest.Of x) = record { none = refl; more = λ e es. refl }
 entries-search (EntryTest.RecentOf x) = record { none = refl; more = λ e es. refl }
 entries-search (EntryTest.OldOf x) = record { none = refl; more = λ e es. refl }
 entries-search EntryTest.Due = record { none = refl; more = λ e es. refl }
-entries-search (EntryTest.Outside z) = record {
+
+pub outside-search : (z : Sizes) → Search (isOutside z) (λ es. not (entriesWithin z es))
+unfolding entriesWithin
+outside-search z = record {
   none = refl;
   more =
       λ e es.

@@ -2,6 +2,7 @@
 use mathlib.Core.Bool.{Bool, cond, _&&_, not}
 use mathlib.Core.List.{List, [], _∷_}
 use lib.Dec.{leb}
+use Rattle.records.specs.declared.Sizes.{Sizes}
 use Rattle.records.specs.declared.WriteId.{WriteId}
 use Rattle.records.specs.declared.Entry.{Entry}
 use Rattle.records.specs.declared.Mark.the-variants.{Recent, Old}
@@ -10,11 +11,11 @@ use Rattle.records.specs.declared.Previous.the-variants.{Id}
 use Rattle.records.specs.declared.write_ids.IdTest.{IdTest}
 use Rattle.records.specs.declared.write_ids.IdTest.the-variants as IdTest
 use Rattle.records.specs.declared.node_entries.EntryTest.{EntryTest}
-use Rattle.records.specs.declared.node_entries.EntryTest.the-variants.{Of, RecentOf, OldOf, Due, Outside}
+use Rattle.records.specs.declared.node_entries.EntryTest.the-variants.{Of, RecentOf, OldOf, Due}
 use Rattle.records.specs.declared.node_entries.EntryChange.{EntryChange}
 use Rattle.records.specs.declared.node_entries.EntryChange.the-variants.{Mark, Discard}
 use Rattle.records.specs.Entries.{sameId, isRecent, isIn, isListed, isRecentIn, isOldIn, older, discard, markOld, someDue}
-use Rattle.records.specs.Node.{idWithin, entriesWithin}
+use Rattle.records.specs.Node.{idWithin}
 use Rattle.records.specs.Client.{idsWithin}
 
 -- an id passes the test; some id of the list does
@@ -32,14 +33,16 @@ passes (Of x) e = sameId (e .id) x
 passes (RecentOf x) e = isRecent e && sameId (e .id) x
 passes (OldOf x) e = not (isRecent e) && sameId (e .id) x
 passes Due e = isRecent e && leb 64 (e .age .0)
-passes (Outside z) e = not (idWithin z (e .id) && leb (e .age .0) 255)
 
 abbrev pub somePasses : EntryTest → List Entry → Bool
 somePasses (Of x) es = isListed x es
 somePasses (RecentOf x) es = isRecentIn x es
 somePasses (OldOf x) es = isOldIn x es
 somePasses Due es = someDue es
-somePasses (Outside z) es = not (entriesWithin z es)
+
+-- an entry is outside the limits
+abbrev pub isOutside : Sizes → Entry → Bool
+isOutside z e = not (idWithin z (e .id) && leb (e .age .0) 255)
 
 -- an entry one older; marked old if its id is in the list; whether it is kept when the ids of the list are discarded
 abbrev pub olderEntry : Entry → Entry

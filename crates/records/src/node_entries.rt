@@ -1,5 +1,5 @@
 // Entries, and a node's list of them.
-ghost use mathlib.Core.Bool.{_&&_};
+ghost use mathlib.Core.Bool.{_&&_, not};
 ghost use mathlib.Core.List.{[], _∷_, _++_};
 ghost use mathlib.Core.Path.{_≡_};
 ghost use Prim.Native.Nat.{_<_, _≤_};
@@ -7,7 +7,7 @@ ghost use lib.Dec.{leb};
 ghost use lib.ListN.{length};
 ghost use Rattle.records.specs.Entries.{isRecent, isListed, isRecentIn, isOldIn, lastRecent, previousRecent, newEntry, aged, enter, discard, markOld, someDue};
 ghost use Rattle.records.specs.Node.{entryLimit, entriesWithin};
-ghost use Rattle.records.specs.Lists.{passes, somePasses, olderEntry, markedEntry, isKept, offered, changed, lastRecentOf};
+ghost use Rattle.records.specs.Lists.{passes, somePasses, isOutside, olderEntry, markedEntry, isKept, offered, changed, lastRecentOf};
 ghost use Rattle.records.specs.View.{idsOf, entriesOf};
 use crate::Age;
 use crate::Entries;
@@ -24,7 +24,6 @@ pub enum EntryTest {
     RecentOf(WriteId),
     OldOf(WriteId),
     Due,
-    Outside(Sizes),
 }
 
 // What a call does to each entry of a list, by a list of ids.
@@ -69,8 +68,15 @@ impl Entry {
             EntryTest::RecentOf(id) => self.is_recent() && own.same(id),
             EntryTest::OldOf(id) => !self.is_recent() && own.same(id),
             EntryTest::Due => self.is_recent() && Age::DUE <= self.age.0,
-            EntryTest::Outside(z) => !own.is_within(z),
         }
+    }
+
+    // An age is a byte, so it is within.
+    fn is_outside(self, z: Sizes) -> bool
+        ensures { λ r. ⌜ r ≡ isOutside z self ⌝ }
+    {
+        let id = self.id;
+        !id.is_within(z)
     }
 
     fn older(self) -> Self
@@ -206,10 +212,28 @@ impl Entries {
         self.any(EntryTest::Due)
     }
 
+    // Whether some entry is outside the limits. Every call asks it, so the loop is apart from that of the tests.
+    fn some_outside(self, z: Sizes) -> bool
+        requires { ⌜ self .count ≤ 16 ⌝ }
+        ensures { λ r. ⌜ r ≡ not (entriesWithin z (entriesOf self)) ⌝ }
+    {
+        let n = self.count;
+        let items = self.items;
+        let mut i = 0;
+        while i < n {
+            let e = items[i];
+            if e.is_outside(z) {
+                return true;
+            }
+            i += 1;
+        }
+        false
+    }
+
     pub fn is_within(self, z: Sizes) -> bool
         ensures { λ r. ⌜ r ≡ (leb (length (entriesOf self)) entryLimit && entriesWithin z (entriesOf self)) ⌝ }
     {
-        self.count <= Entries::LIMIT && !self.any(EntryTest::Outside(z))
+        self.count <= Entries::LIMIT && !self.some_outside(z)
     }
 
     pub fn last_recent(self) -> Previous

@@ -13,5 +13,5 @@ is-within-spec =
     (λ c κs. search needs)
     (λ c.
     let s = c .before .before .before .args .self in
-    rw (entries-count s, le-leb (s .count) 16 (c .before .if1 .taken), c .any .ensures) (Bool·not-not _))
+    rw (entries-count s, le-leb (s .count) 16 (c .before .if1 .taken), c .some-outside .ensures) (Bool·not-not _))
     (λ c. let s = c .before .before .args .self in rw (entries-count s, lt-leb (s .count) 16 (c .if1 .left))))

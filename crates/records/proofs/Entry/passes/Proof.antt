@@ -1,10 +1,5 @@
--- By cases of the test; an age is a byte. Assumes nothing.
-use mathlib.Core.Path.{ap}
-use mathlib.Core.Bool.{not, and-true}
-use native.Mathlib.Omega.{arith}
-use borrow.Author.Tests.{le-leb}
+-- By cases of the test. Assumes nothing.
 use borrow.Author.Needs.{needs}
-use Rattle.records.specs.Node.{idWithin}
 use Rattle.records.proofs.Entry.passes.Statement.{statement}
 use Rattle.records.proofs.Entry.passes.Tie as tie
 
@@ -22,15 +17,10 @@ passes-spec =
     (λ c κs. search needs)
     (λ c. search needs)
     (λ c κs. search needs)
-    (λ c. search needs)
-    (λ c κs. search needs)
     (λ c. rw (c .before .before .test .given .1) (c .same .ensures))
     (λ c. rw (c .before .before .before .before .test2 .given .1, ← c .before .before .is-recent .ensures, c .before .if1 .taken) (c .same2 .ensures))
     (λ c. rw (c .before .before .before .test2 .given .1, ← c .before .is-recent .ensures, c .if1 .left))
     (λ c. rw (c .before .before .before .before .test3 .given .1, ← c .before .before .is-recent2 .ensures, c .before .if2 .taken) (c .same3 .ensures))
     (λ c. rw (c .before .before .before .test3 .given .1, ← c .before .is-recent2 .ensures, c .if2 .left))
     (λ c. rw (c .before .before .before .enum-told .given .1, ← c .before .before .is-recent3 .ensures, c .before .if3 .taken))
-    (λ c. rw (c .before .before .enum-told .given .1, ← c .before .is-recent3 .ensures, c .if3 .left))
-    (λ c.
-    let e = c .before .before .before .before .before .args .self in
-    rw (c .before .before .test4 .given .1, le-leb (e .age .0) 255 (omega arith), and-true (idWithin _ (e .id))) (ap not (c .is-within .ensures))))
+    (λ c. rw (c .before .before .enum-told .given .1, ← c .before .is-recent3 .ensures, c .if3 .left)))

@@ -1,0 +1,46 @@
+-- A search: none of the first i entries is outside. Assumes nothing.
+use mathlib.Core.Bool.{not}
+use mathlib.Core.List.{List}
+use Prim.Native.Nat.{_-_}
+use native.Mathlib.Omega.{arith}
+use lib.ListN.{getD}
+use borrow.Author.Needs.{needs}
+use Rattle.records.specs.declared.Entry.{Entry}
+use Rattle.records.specs.Entries.{newEntry}
+use Rattle.records.specs.Node.{entriesWithin}
+use Rattle.records.specs.View.{blankId}
+use Rattle.records.proofs.Lists.{Searched, outside-search, search-start, search-on, search-hit, search-end}
+use Rattle.records.proofs.Entries.some_outside.Statement.{statement}
+use Rattle.records.proofs.Entries.some_outside.Tie as tie
+
+abbrev Inv-loop : tie.InvT-loop
+Inv-loop z n items i₀ i = Searched (λ (es : List Entry). not (entriesWithin z es)) (λ j. getD items j (newEntry blankId)) i n
+
+abbrev μ-loop : tie.MeasureT-loop
+μ-loop z n items i₀ i = n - i
+
+returns : tie.Need-returns Inv-loop μ-loop
+returns c =
+    let b = c .before .before .before .before in
+    search-hit (outside-search (b .before .before .args .z)) (b .loop .inv) (omega arith) (c .before .is-outside .ensures) (c .if1 .taken)
+
+loop-again : tie.Need-loop-again Inv-loop μ-loop
+loop-again c =
+    let b = c .before .before .before .before in
+    search-on (outside-search (b .before .before .args .z)) (b .loop .inv) (omega arith) (c .before .is-outside .ensures) (c .if1 .left)
+
+pub some-outside-spec : {M : Type 1} → statement M
+some-outside-spec =
+    tie.close
+    (tie.spec
+    Inv-loop
+    μ-loop
+    (λ c. search-start (outside-search (c .before .args .z)))
+    (λ c. search needs)
+    (λ c. search needs)
+    (λ c κs. search needs)
+    returns
+    (λ c. search needs)
+    (λ c. search needs)
+    loop-again
+    (λ c. search-end (c .before .loop .inv) (omega arith)))
