@@ -10,6 +10,7 @@ const N: usize = 18;
 const LOST: usize = N - K;
 const LENGTHS: [usize; 3] = [1, 512, 4096];
 const TIMES: usize = 256;
+const STRIPES: usize = 16_384;
 
 #[link(name = "callbench", kind = "static")]
 extern "C" {
@@ -35,12 +36,10 @@ extern "C" {
     fn callbench_add(
         times: usize,
         b: usize,
-        value: *const u8,
-        value_length: usize,
+        differences: *const u8,
+        differences_length: usize,
         blocks: *mut u8,
         blocks_length: usize,
-        differences: *mut u8,
-        differences_length: usize,
     ) -> u8;
     fn callbench_add_leaf(
         times: usize,
@@ -71,10 +70,10 @@ fn accepted(answer: u8) {
 
 // Safety of the calls: a pointer and a length come from one slice, and what is lent as `&mut` overlaps nothing else.
 
-fn swap(b: usize, value: &[u8], blocks: &mut [u8], differences: &mut [u8]) {
+fn swap(times: usize, b: usize, value: &[u8], blocks: &mut [u8], differences: &mut [u8]) {
     accepted(unsafe {
         callbench_swap(
-            TIMES,
+            times,
             b,
             value.as_ptr(),
             value.len(),
@@ -100,17 +99,15 @@ fn swap_leaf(value: &[u8], block: &mut [u8], difference: &mut [u8]) {
     });
 }
 
-fn add(b: usize, value: &[u8], blocks: &mut [u8], differences: &mut [u8]) {
+fn add(times: usize, b: usize, differences: &[u8], blocks: &mut [u8]) {
     accepted(unsafe {
         callbench_add(
-            TIMES,
+            times,
             b,
-            value.as_ptr(),
-            value.len(),
+            differences.as_ptr(),
+            differences.len(),
             blocks.as_mut_ptr(),
             blocks.len(),
-            differences.as_mut_ptr(),
-            differences.len(),
         )
     });
 }
@@ -168,6 +165,7 @@ fn measure_swap(b: usize) -> f64 {
         b,
         || {
             swap(
+                TIMES,
                 b,
                 black_box(&value),
                 black_box(&mut blocks),
@@ -185,21 +183,64 @@ fn measure_swap(b: usize) -> f64 {
 }
 
 fn measure_add(b: usize) -> f64 {
-    let (value, mut blocks, mut differences) = (noise(b), vec![0; N * b], vec![0; b]);
-    let mut leaf_block = noise(b);
+    let (differences, mut blocks, mut leaf_block) = (noise(b), vec![0; N * b], noise(b));
     line(
         "add",
         b,
-        || {
-            add(
-                b,
-                black_box(&value),
-                black_box(&mut blocks),
-                black_box(&mut differences),
-            )
-        },
-        || add_leaf(black_box(&value), black_box(&mut leaf_block)),
+        || add(TIMES, b, black_box(&differences), black_box(&mut blocks)),
+        || add_leaf(black_box(&differences), black_box(&mut leaf_block)),
     )
+}
+
+/// The tables of many stripes: no core's cache holds them.
+struct Shelf {
+    b: usize,
+    values: Vec<u8>,
+    blocks: Vec<u8>,
+    differences: Vec<u8>,
+}
+
+impl Shelf {
+    fn new(b: usize) -> Self {
+        Shelf {
+            b,
+            values: noise(STRIPES * b),
+            blocks: vec![0; STRIPES * N * b],
+            differences: vec![0; STRIPES * b],
+        }
+    }
+
+    /// A swap in each stripe, with a value of its own.
+    fn swaps(&mut self) {
+        let values = self.values.chunks(self.b);
+        let blocks = self.blocks.chunks_mut(N * self.b);
+        let differences = self.differences.chunks_mut(self.b);
+        for ((value, blocks), difference) in values.zip(blocks).zip(differences) {
+            swap(1, self.b, value, blocks, difference);
+        }
+    }
+
+    /// An add in each stripe, of its difference.
+    fn adds(&mut self) {
+        let blocks = self.blocks.chunks_mut(N * self.b);
+        for (difference, blocks) in self.differences.chunks(self.b).zip(blocks) {
+            add(1, self.b, difference, blocks);
+        }
+    }
+}
+
+/// A call on each stripe of a shelf, beside the same with blocks of one byte: what it costs there is what it costs beside its bytes.
+/// Returns the share of the bytes.
+fn measure_shelf(name: &str, b: usize, calls: fn(&mut Shelf)) -> f64 {
+    let (mut shelf, mut bare) = (Shelf::new(b), Shelf::new(1));
+    let [call, beside] = best_of(|| calls(&mut shelf), || calls(&mut bare))
+        .map(|seconds| seconds / STRIPES as f64 * 1e9);
+    let share = 1.0 - beside / call;
+    println!(
+        "{name:<8}{b:>6}{call:>12.0}{:>12.0}{share:>8.2}",
+        call - beside
+    );
+    share
 }
 
 /// A whole rebuild beside an encoding of the same data.
@@ -227,7 +268,16 @@ fn main() {
     let [_, _, swapped] = LENGTHS.map(measure_swap);
     let [_, _, added] = LENGTHS.map(measure_add);
     println!("The node's record goes from call to call, its list having 0 to 15 entries. All buffers stay in the cache.");
+    let [_, shelf_swapped] = [512, 4096].map(|b| measure_shelf("swap", b, Shelf::swaps));
+    let [_, shelf_added] = [512, 4096].map(|b| measure_shelf("add", b, Shelf::adds));
+    println!("Each call on another of {STRIPES} stripes; the leaf is what the call takes more than with blocks of one byte.");
     measure_rebuild(4096);
-    aim("swap at 4096, the leaf's share", swapped, 0.8);
-    aim("add at 4096, the leaf's share", added, 0.8);
+    aim("swap at 4096 in the cache, the leaf's share", swapped, 0.8);
+    aim("add at 4096 in the cache, the leaf's share", added, 0.8);
+    aim(
+        "swap at 4096 on a shelf, the leaf's share",
+        shelf_swapped,
+        0.8,
+    );
+    aim("add at 4096 on a shelf, the leaf's share", shelf_added, 0.8);
 }

@@ -4,8 +4,13 @@ use answers::Answer;
 use answers::AtNode;
 use records::ClientRecord;
 use records::Entries;
+use records::Epoch;
 use records::NodeRecord;
+use records::Previous;
 use records::Sizes;
+use records::Write;
+use records::WriteId;
+use records::WriteNumber;
 
 // What a call is made on: records, after the answer of the call before.
 fn fresh() -> AtNode {
@@ -94,25 +99,40 @@ fn add(z: Sizes, start: AtNode, last: AtNode, blocks: &mut [u8], differences: &[
     writing::add(z, 1, 13, node, client, blocks, differences)
 }
 
-// A fresh node, and a client with a write in hand that is done at node 1.
-fn begun(z: Sizes, value: &[u8], blocks: &mut [u8], differences: &mut [u8]) -> AtNode {
-    let start = fresh();
-    let node = start.node;
-    let mut begun = swap(z, value, start, start, blocks, differences);
-    begun.node = node;
-    begun
+// A client with a write in hand, the first at position 1.
+fn writing_client() -> ClientRecord {
+    let id = WriteId {
+        client: 1,
+        position: 1,
+        number: WriteNumber(0),
+    };
+    ClientRecord::fresh().begin(Write {
+        id: id,
+        previous: Previous::Nothing,
+        epoch: Epoch(0),
+    })
+}
+
+// A fresh node, and such a client.
+fn begun() -> AtNode {
+    let node = NodeRecord::fresh();
+    let client = writing_client();
+    AtNode {
+        answer: Answer::Accepted,
+        node: node,
+        client: client,
+    }
 }
 
 #[no_mangle]
 pub extern "C" fn callbench_add(
     times: usize,
     b: usize,
-    value: &[u8],
+    differences: &[u8],
     blocks: &mut [u8],
-    differences: &mut [u8],
 ) -> u8 {
     let z = sizes(b);
-    let start = begun(z, value, blocks, differences);
+    let start = begun();
     let mut last = start;
     for _ in 0..times {
         last = add(z, start, last, blocks, differences);
