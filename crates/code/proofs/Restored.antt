@@ -45,7 +45,8 @@ module _ (b : ℕ) (t nodes : List ℕ) (j : ℕ) where
       (λ q q1 qk. nth-take (length nodes) row q q1 qk ∙ e q q1 qk) (λ q q1 qk. refl) p)
 
   -- the block of node j itself, the qth of the nodes
-  pub present-restored : Chosen (length nodes) (nth nodes) → length nodes ≤ 256 → Bytes t → (q : ℕ) → 1 ≤ q → q ≤ length nodes → nth nodes q ≡ j → (j - 1) * b + b ≤ length t
+  pub present-restored : Chosen (length nodes) (nth nodes) → length nodes ≤ 256 → Bytes t → (q : ℕ) → 1 ≤ q → q ≤ length nodes → nth nodes q ≡ j
+      → (j - 1) * b + b ≤ length t
       → block b j t ≡ listOf b (restored b t nodes j)
   unfolding byteAt
   present-restored chosen few bytes q q1 qk e fits =

@@ -191,7 +191,8 @@ module _ (z : Sizes) (s : Stripe) where
         there : clientAt (s .clients) (clipNumber c) ≡ clientAt (s .clients) c
         there = element-clip freshClient (s .clients) c (small .client-records)
 
-        by : Dec (c ≤ 255) → onNode (node (clientAt (s .clients) (clipNumber c))) (clipNumber c) (call (clipNumber c)) s ≡ onNode (node (clientAt (s .clients) c)) c (call c) s
+        by : Dec (c ≤ 255)
+            → onNode (node (clientAt (s .clients) (clipNumber c))) (clipNumber c) (call (clipNumber c)) s ≡ onNode (node (clientAt (s .clients) c)) c (call c) s
         by (yes b) = rw (clip-below c b)
         by (no b) =
             let e : 255 < c = omega arith in

@@ -243,7 +243,8 @@ module _ (O : Ops) where
       abbrev finished' : List WriteId
       finished' = s .finished c ++ (w .id ∷ [])
 
-      finished-cases : (P : WriteId → Type 0) → P (w .id) → ((x : WriteId) → isIn x (s .finished c) ≡ true → P x) → (x : WriteId) → isIn x finished' ≡ true → P x
+      finished-cases : (P : WriteId → Type 0) → P (w .id) → ((x : WriteId) → isIn x (s .finished c) ≡ true → P x) → (x : WriteId) → isIn x finished' ≡ true
+          → P x
       finished-cases P p f x e = go (or-one (isIn x (s .finished c)) (sameId (w .id) x) (sym (in-snoc x (w .id) (s .finished c)) ∙ e))
         where
           go : (isIn x (s .finished c) ≡ true) ⊎ (sameId (w .id) x ≡ true) → P x

@@ -92,7 +92,8 @@ module _ (x : WriteId) where
   listed-mark l (e ∷ es) = ap (λ t. sameId (e .id) x || t) (listed-mark l es)
 
   -- an entry of an id that is not in the list keeps its mark
-  same-mark : (l : List WriteId) (e : Entry) (f : Bool → Bool) → isIn x l ≡ false → (f (marked (cond (isIn (e .id) l) Old (e .mark))) && sameId (e .id) x) ≡ (f (isRecent e) && sameId (e .id) x)
+  same-mark : (l : List WriteId) (e : Entry) (f : Bool → Bool) → isIn x l ≡ false
+      → (f (marked (cond (isIn (e .id) l) Old (e .mark))) && sameId (e .id) x) ≡ (f (isRecent e) && sameId (e .id) x)
   same-mark l e f h = go (bool-cases (sameId (e .id) x))
     where
       and-false : (a b t : Bool) → t ≡ false → (a && t) ≡ (b && t)
@@ -101,7 +102,8 @@ module _ (x : WriteId) where
       and-false false true t q = sym q
       and-false false false t q = refl
 
-      go : (sameId (e .id) x ≡ true) ⊎ (sameId (e .id) x ≡ false) → (f (marked (cond (isIn (e .id) l) Old (e .mark))) && sameId (e .id) x) ≡ (f (isRecent e) && sameId (e .id) x)
+      go : (sameId (e .id) x ≡ true) ⊎ (sameId (e .id) x ≡ false)
+          → (f (marked (cond (isIn (e .id) l) Old (e .mark))) && sameId (e .id) x) ≡ (f (isRecent e) && sameId (e .id) x)
       go (inl q) = let g : isIn (e .id) l ≡ false = subst (λ y. isIn y l ≡ false) (sym (same-id (e .id) x q)) h in rw g
       go (inr q) = and-false (f (marked (cond (isIn (e .id) l) Old (e .mark)))) (f (isRecent e)) (sameId (e .id) x) q
 
@@ -163,7 +165,8 @@ the-id : {x y : WriteId} → Id x ≡ Id y → x ≡ y
 the-id e = cc
 
 -- marking ids other than x leaves x the last, if it was: p and q are what was last before
-mark-after : (l : List WriteId) (x : WriteId) → isIn x l ≡ false → (p q : Previous) → (p ≡ Id x → q ≡ Id x) → (es : List Entry) → lastRecentAfter p es ≡ Id x → lastRecentAfter q (markOld l es) ≡ Id x
+mark-after : (l : List WriteId) (x : WriteId) → isIn x l ≡ false → (p q : Previous) → (p ≡ Id x → q ≡ Id x) → (es : List Entry) → lastRecentAfter p es ≡ Id x
+    → lastRecentAfter q (markOld l es) ≡ Id x
 unfolding lastRecentAfter markOld
 mark-after l x f p q h [] = h
 mark-after l x f p q h (a ∷ es) = mark-after l x f (cond (isRecent a) (Id (a .id)) p) (cond (marked (cond (isIn (a .id) l) Old (a .mark))) (Id (a .id)) q) (go (a .mark)) es

@@ -65,7 +65,8 @@ module _ {A : Type 0} where
       go (inr q) = upd2-pos f i l a i' l' q
 
   -- one place changed in a table
-  pub upd2-ind : (P : ℕ → ℕ → A → Type 0) (f : ℕ → ℕ → A) (i l : ℕ) (a : A) → P i l a → ((i' l' : ℕ) → ((i ≡ i') × (l ≡ l') → ⊥) → P i' l' (f i' l')) → (i' l' : ℕ) → P i' l' (upd2 f i l a i' l')
+  pub upd2-ind : (P : ℕ → ℕ → A → Type 0) (f : ℕ → ℕ → A) (i l : ℕ) (a : A) → P i l a → ((i' l' : ℕ) → ((i ≡ i') × (l ≡ l') → ⊥) → P i' l' (f i' l'))
+      → (i' l' : ℕ) → P i' l' (upd2 f i l a i' l')
   upd2-ind P f i l a p q i' l' = go (same-or i i') (same-or l l')
     where
       go : (i ≡ i') ⊎ (i ≢ i') → (l ≡ l') ⊎ (l ≢ l') → P i' l' (upd2 f i l a i' l')
@@ -74,7 +75,8 @@ module _ {A : Type 0} where
       go (inr e) d = subst (λ y. P i' l' y) (sym (upd2-pos f i l a i' l' e)) (q i' l' (λ h. e (h .0)))
 
 -- one count raised: a place within is the new one or one of before
-pub place-ind : (P : ℕ → ℕ → Type 0) (len : ℕ → ℕ) (i : ℕ) → P i (suc (len i)) → ((i' l : ℕ) → l ≤ len i' → P i' l) → (i' l : ℕ) → l ≤ upd len i (suc (len i)) i' → P i' l
+pub place-ind : (P : ℕ → ℕ → Type 0) (len : ℕ → ℕ) (i : ℕ) → P i (suc (len i)) → ((i' l : ℕ) → l ≤ len i' → P i' l) → (i' l : ℕ)
+    → l ≤ upd len i (suc (len i)) i' → P i' l
 place-ind P len i p q i' l h = go (same-or i i')
   where
     last : (l ≡ suc (len i)) ⊎ (l ≢ suc (len i)) → l ≤ suc (len i) → P i l
@@ -151,7 +153,8 @@ module _ (O : Ops) where
     pub new : (i l : ℕ) → 1 ≤ l → l ≤ h' .len i → (l ≤ h .len i) ⊎ (isOldIn (G' .idOf i l) es ≡ false)
     pub failed : h .failed ≡ true → h' .failed ≡ true
 
-  pub node-frame : Laws O → (G G' : Ghost) (h h' : Ledger B) (j : ℕ) (b : B) (o : Opmode) (e : ℕ) (es : List Entry) → Grown G G' h h' j o es → NodeOk O G h j b o e es → NodeOk O G' h' j b o e es
+  pub node-frame : Laws O → (G G' : Ghost) (h h' : Ledger B) (j : ℕ) (b : B) (o : Opmode) (e : ℕ) (es : List Entry) → Grown G G' h h' j o es
+      → NodeOk O G h j b o e es → NodeOk O G' h' j b o e es
   node-frame L G G' h h' j b o e es W N =
       record {
         live = λ p. live p (N .live p);
@@ -202,7 +205,8 @@ module _ (O : Ops) where
           own : j ≤ k → G' .inBlock j j ≡ h' .len j
           own p = W .inBlock j ∙ v .own p ∙ sym (W .own p)
 
-          newest : j ≤ k → (lastRecent es ≡ Id (G .idOf j (h .len j))) ⊎ (h .done j (h .len j) ≡ true) → (lastRecent es ≡ Id (G' .idOf j (h' .len j))) ⊎ (h' .done j (h' .len j) ≡ true)
+          newest : j ≤ k → (lastRecent es ≡ Id (G .idOf j (h .len j))) ⊎ (h .done j (h .len j) ≡ true)
+              → (lastRecent es ≡ Id (G' .idOf j (h' .len j))) ⊎ (h' .done j (h' .len j) ≡ true)
           newest p (inl q) = inl (q ∙ ap Id (sym (W .idOf j (h .len j) (omega arith)) ∙ ap (G' .idOf j) (sym (W .own p))))
           newest p (inr q) = inr (subst (λ t. h' .done j t ≡ true) (sym (W .own p)) (W .done j (h .len j) q))
 
@@ -213,14 +217,18 @@ module _ (O : Ops) where
     pub idOf : (i l : ℕ) → l ≤ h .len i → G' .idOf i l ≡ G .idOf i l
     pub len : (i : ℕ) → h .len i ≤ h' .len i
     pub done : (i l : ℕ) → h .done i l ≡ true → h' .done i l ≡ true
-    pub still : (d : B) → Own O G h op c d w → (q : ℕ) → suc q ≤ h .len (w .id .position) → w .id ≡ G .idOf (w .id .position) (suc q) → h .done (w .id .position) (suc q) ≡ false → h' .done (w .id .position) (suc q) ≡ false
+    pub still : (d : B) → Own O G h op c d w → (q : ℕ) → suc q ≤ h .len (w .id .position) → w .id ≡ G .idOf (w .id .position) (suc q)
+        → h .done (w .id .position) (suc q) ≡ false → h' .done (w .id .position) (suc q) ≡ false
     pub last : h' .last c ≡ h .last c
-    pub in-done : (j q : ℕ) → k < j → isNorm (op' j) ≡ true → G' .isSettled j ≡ false → suc q ≤ h .len (w .id .position) → w .id ≡ G .idOf (w .id .position) (suc q) →
+    pub in-done : (j q : ℕ) → k < j → isNorm (op' j) ≡ true → G' .isSettled j ≡ false → suc q ≤ h .len (w .id .position)
+        → w .id ≡ G .idOf (w .id .position) (suc q) →
         (isNorm (op j) ≡ true → G .isSettled j ≡ false → suc q ≤ G .inBlock j (w .id .position)) → suc q ≤ G' .inBlock j (w .id .position)
-    pub not-done : (j q : ℕ) → k < j → isNorm (op' j) ≡ true → G' .isSettled j ≡ false → suc q ≤ h .len (w .id .position) → w .id ≡ G .idOf (w .id .position) (suc q) → w .id .client ≡ c →
+    pub not-done : (j q : ℕ) → k < j → isNorm (op' j) ≡ true → G' .isSettled j ≡ false → suc q ≤ h .len (w .id .position)
+        → w .id ≡ G .idOf (w .id .position) (suc q) → w .id .client ≡ c →
         (isNorm (op j) ≡ true → G .isSettled j ≡ false → G .inBlock j (w .id .position) ≤ q) → G' .inBlock j (w .id .position) ≤ q
 
-  pub hand-frame : (G G' : Ghost) (h h' : Ledger B) (op op' : ℕ → Opmode) (c : ℕ) (d : B) (w : Write) → HandGrown G G' h h' op op' c w → HandOk O G h op c d w → HandOk O G' h' op' c d w
+  pub hand-frame : (G G' : Ghost) (h h' : Ledger B) (op op' : ℕ → Opmode) (c : ℕ) (d : B) (w : Write) → HandGrown G G' h h' op op' c w → HandOk O G h op c d w
+      → HandOk O G' h' op' c d w
   hand-frame G G' h h' op op' c d w W N = record { epoch = subst (λ t. w .epoch .0 ≤ t) (sym (W .base)) (N .epoch); own = λ p. own (N .own (p ∙ W .base)) }
     where
       own : Own O G h op c d w → Own O G' h' op' c d w
@@ -245,7 +253,8 @@ module _ (O : Ops) where
           less : suc (v .q) ≤ h .len (w .id .position) → v .q ≤ h .len (w .id .position)
           less a = omega arith
 
-          prev : (w .previous ≡ Id (G .idOf (w .id .position) (v .q))) ⊎ (h .done (w .id .position) (v .q) ≡ true) → (w .previous ≡ Id (G' .idOf (w .id .position) (v .q))) ⊎ (h' .done (w .id .position) (v .q) ≡ true)
+          prev : (w .previous ≡ Id (G .idOf (w .id .position) (v .q))) ⊎ (h .done (w .id .position) (v .q) ≡ true)
+              → (w .previous ≡ Id (G' .idOf (w .id .position) (v .q))) ⊎ (h' .done (w .id .position) (v .q) ≡ true)
           prev (inl e) = inl (e ∙ ap Id (sym (W .idOf (w .id .position) (v .q) (less (v .high)))))
           prev (inr e) = inr (W .done (w .id .position) (v .q) e)
 
@@ -253,7 +262,8 @@ module _ (O : Ops) where
   of-live v = record { low = v .low; high = v .high }
 
   -- a swap that is listed at a node is one of those counted there
-  pub counted : {G : Ghost} {h : Ledger B} {s : Columns B} → Inv O G h s → (j i l : ℕ) → 1 ≤ l → l ≤ h .len i → isListed (G .idOf i l) (s .entries j) ≡ true → Spot O j i × (l ≤ G .inList j i)
+  pub counted : {G : Ghost} {h : Ledger B} {s : Columns B} → Inv O G h s → (j i l : ℕ) → 1 ≤ l → l ≤ h .len i → isListed (G .idOf i l) (s .entries j) ≡ true
+      → Spot O j i × (l ≤ G .inList j i)
   counted {G} {h} {s} I j i l low high e = (subst (Spot O j) position (I .node j .list .mine (G .idOf i l) e), subst (λ t. t ≤ G .inList j i) same within)
     where
       position : G .idOf i l .position ≡ i
@@ -269,7 +279,8 @@ module _ (O : Ops) where
       same = I .ids .idOf-inj i (a .l) l (a .low) (le-trans within (I .node j .list .short i)) low high (subst (λ y. G .idOf y (a .l) ≡ G .idOf i l) position (a .is))
 
   -- a client between its pick and its finish has every node that is not INIT at L1
-  pub writer-holds : (G : Ghost) (c j : ℕ) (p : Rebuild) (o : Opmode) (l : Lock) (e : ℕ) → PhaseOk O G c p j o l e → writes p ≡ true → isInit o ≡ false → l ≡ L1 c
+  pub writer-holds : (G : Ghost) (c j : ℕ) (p : Rebuild) (o : Opmode) (l : Lock) (e : ℕ) → PhaseOk O G c p j o l e → writes p ≡ true → isInit o ≡ false
+      → l ≡ L1 c
   writer-holds G c j NoRebuild o l e v w i = clash w refl
   writer-holds G c j (Locking old) o l e v w i = clash w refl
   writer-holds G c j (Picking t) o l e v w i = clash w refl
@@ -278,13 +289,15 @@ module _ (O : Ops) where
   writer-holds G c j (Unlocking x) o l e v w i = clash w refl
 
   -- so while some node that is not INIT is at UNL or L0 nobody is
-  pub no-writer : (G : Ghost) (h : Ledger B) (s : Columns B) → Inv O G h s → (j : ℕ) → isInit (s .op j) ≡ false → (isUnl (s .lock j) || isL0 (s .lock j)) ≡ true → (c : ℕ) → writes (s .phase c) ≡ false
+  pub no-writer : (G : Ghost) (h : Ledger B) (s : Columns B) → Inv O G h s → (j : ℕ) → isInit (s .op j) ≡ false → (isUnl (s .lock j) || isL0 (s .lock j)) ≡ true
+      → (c : ℕ) → writes (s .phase c) ≡ false
   no-writer G h s I j i l c =
       is-false (writes (s .phase c)) (λ w.
       clash (subst (λ t. (isUnl t || isL0 t) ≡ true) (writer-holds G c j (s .phase c) (s .op j) (s .lock j) (s .epoch j) (I .phase c j (of-live (I .node j .live i))) w i) l) refl)
 
   -- a client that does not write: its part turns on `begun` alone
-  pub phase-quiet : (G G' : Ghost) → G' .begun ≡ G .begun → (c j : ℕ) (p : Rebuild) (o : Opmode) (l : Lock) (e : ℕ) → writes p ≡ false → PhaseOk O G c p j o l e → PhaseOk O G' c p j o l e
+  pub phase-quiet : (G G' : Ghost) → G' .begun ≡ G .begun → (c j : ℕ) (p : Rebuild) (o : Opmode) (l : Lock) (e : ℕ) → writes p ≡ false → PhaseOk O G c p j o l e
+      → PhaseOk O G' c p j o l e
   phase-quiet G G' q c j NoRebuild o l e w v = v
   phase-quiet G G' q c j (Locking old) o l e w v = record { before = v .before; tight = v .tight; was = λ a b d. v .was a (sym q ∙ b) d }
   phase-quiet G G' q c j (Picking t) o l e w v = v

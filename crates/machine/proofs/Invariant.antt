@@ -65,7 +65,8 @@ module _ (O : Ops) where
     pub parity-zero : (j : ℕ) → parity j (λ i. zeroes) ≡ zeroes
     pub parity-ext : (j : ℕ) (x y : ℕ → B) → ((i : ℕ) → IsPos O i → x i ≡ y i) → parity j x ≡ parity j y
     pub parity-upd : (j i : ℕ) (x : ℕ → B) (v : B) → k < j → j ≤ n → IsPos O i → parity j (upd x i v) ≡ mulAdd j i (parity j x) (diff v (x i))
-    pub decodes : (w : NodeSet) (b x : ℕ → B) → k ≤ size w → ((j : ℕ) → has w j ≡ true → (1 ≤ j) × (j ≤ n) × (b j ≡ code j x)) → (j : ℕ) → 1 ≤ j → j ≤ n → decode w b j ≡ code j x
+    pub decodes : (w : NodeSet) (b x : ℕ → B) → k ≤ size w → ((j : ℕ) → has w j ≡ true → (1 ≤ j) × (j ≤ n) × (b j ≡ code j x)) → (j : ℕ) → 1 ≤ j → j ≤ n
+        → decode w b j ≡ code j x
 
   pub record IsNode (j : ℕ) : Type 0 where
     pub low : 1 ≤ j

@@ -124,7 +124,8 @@ withNodes s l = record { nodes = l; clients = s .clients; blocks = s .blocks; sp
 abbrev pub withClients : Stripe → List Client.Client → Stripe
 withClients s l = record { nodes = s .nodes; clients = l; blocks = s .blocks; spare = s .spare; differences = s .differences }
 
-pub put-node : (z : Sizes) (s : Stripe) (j : ℕ) (x : Node) → 1 ≤ j → j ≤ length (s .nodes) → columns z (withNodes s (setAt (s .nodes) j x)) ≡ withNode (columns z s) j x
+pub put-node : (z : Sizes) (s : Stripe) (j : ℕ) (x : Node) → 1 ≤ j → j ≤ length (s .nodes)
+    → columns z (withNodes s (setAt (s .nodes) j x)) ≡ withNode (columns z s) j x
 put-node z s j x a b =
     λ i. record {
       block = blockOf (z .b) (s .blocks);
@@ -141,7 +142,8 @@ put-node z s j x a b =
       spare = columns z s .spare;
     }
 
-pub put-client : (z : Sizes) (s : Stripe) (c : ℕ) (x : Client.Client) → 1 ≤ c → c ≤ length (s .clients) → columns z (withClients s (setAt (s .clients) c x)) ≡ withClient (columns z s) c x
+pub put-client : (z : Sizes) (s : Stripe) (c : ℕ) (x : Client.Client) → 1 ≤ c → c ≤ length (s .clients)
+    → columns z (withClients s (setAt (s .clients) c x)) ≡ withClient (columns z s) c x
 put-client z s c x a b =
     λ i. record {
       block = columns z s .block;
