@@ -10,6 +10,7 @@ use records::Refusal;
 use records::Sizes;
 use stripe::Nodes;
 
+// "accepted, and leaves what answer 10 leaves"
 pub fn quit(z: Sizes, c: u8, nodes: Nodes, client: ClientRecord) -> OnStripe
     ensures { λ r. ⌜ PlaysAlone Rebuild.quit z c nodes client r ⌝ }
 {
@@ -25,6 +26,7 @@ pub fn quit(z: Sizes, c: u8, nodes: Nodes, client: ClientRecord) -> OnStripe
     }
 }
 
+// "all that it held becomes EXP; hand, rebuild, lists and round are empty; its write number stays"
 pub fn stop(z: Sizes, c: u8, nodes: Nodes, client: ClientRecord) -> OnStripe
     ensures { λ r. ⌜ PlaysAlone Writing.stop z c nodes client r ⌝ }
 {

@@ -54,6 +54,7 @@ fn settle_in(z: Sizes, c: u8, nodes: Nodes, client: ClientRecord) -> OnStripe
     }
 }
 
+// "1 to n, after all writes: epoch E+1, entries cleared, rset cleared, NORM, still held. The nth settle finishes the rebuild."
 pub fn settle(z: Sizes, c: u8, nodes: Nodes, client: ClientRecord) -> OnStripe
     ensures { λ r. ⌜ PlaysAlone Rebuild.settle z c nodes client r ⌝ }
 {

@@ -46,6 +46,7 @@ fn lock_in(z: Sizes, c: u8, nodes: Nodes, client: ClientRecord) -> OnStripe
     }
 }
 
+// "the next node, 1 to n, goes from UNL or EXP to L1, held by c; its old lmode is remembered"
 pub fn lock(z: Sizes, c: u8, nodes: Nodes, client: ClientRecord) -> OnStripe
     ensures { λ r. ⌜ PlaysAlone Rebuild.lock z c nodes client r ⌝ }
 {
@@ -82,6 +83,7 @@ fn tighten_in(z: Sizes, c: u8, nodes: Nodes, client: ClientRecord) -> OnStripe
     }
 }
 
+// "the lowest redundant node not tightened since the weaken goes to L1; with none left it is out of phase"
 pub fn tighten(z: Sizes, c: u8, nodes: Nodes, client: ClientRecord) -> OnStripe
     ensures { λ r. ⌜ PlaysAlone Rebuild.tighten z c nodes client r ⌝ }
 {
@@ -114,6 +116,7 @@ fn unlock_in(z: Sizes, c: u8, nodes: Nodes, client: ClientRecord) -> OnStripe
     }
 }
 
+// "1 to n: UNL; the nth ends the rebuild"
 pub fn unlock(z: Sizes, c: u8, nodes: Nodes, client: ClientRecord) -> OnStripe
     ensures { λ r. ⌜ PlaysAlone Rebuild.unlock z c nodes client r ⌝ }
 {

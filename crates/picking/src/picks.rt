@@ -80,6 +80,7 @@ fn is_picking(client: ClientRecord) -> bool
     }
 }
 
+// "The spare becomes the codeword decoded from the set; E = largest epoch."
 pub fn pick(
     z: Sizes,
     c: u8,
@@ -117,6 +118,7 @@ fn weaken_now(z: Sizes, c: u8, nodes: Nodes, client: ClientRecord) -> OnStripe
     }
 }
 
+// "needs all n held, none RECONS, and every node weakened before tightened again; redundant nodes go to L0"
 pub fn weaken(z: Sizes, c: u8, nodes: Nodes, client: ClientRecord) -> OnStripe
     ensures { λ r. ⌜ PlaysAlone Rebuild.weaken z c nodes client r ⌝ }
 {

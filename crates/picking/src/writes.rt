@@ -72,6 +72,7 @@ fn write_in(
     }
 }
 
+// "block from the spare, RECONS, epoch E, rset = the set"
 pub fn write(
     z: Sizes,
     c: u8,

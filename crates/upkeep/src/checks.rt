@@ -54,6 +54,7 @@ fn check_write(j: u8, write: Write, node: NodeRecord, client: ClientRecord) -> O
     }
 }
 
+// "if the own id isn't recent at j, j leaves done (INIT). Else if there is no previous id, or it isn't recent there, it becomes none (GC)."
 pub fn check(z: Sizes, c: u8, j: u8, node: NodeRecord, client: ClientRecord) -> OfClient
     ensures { λ r. ⌜ ((blocks differences : List ℕ) →
         Meets (Writing.check z c j (local (nodeOf node) (clientOf client) blocks differences))
