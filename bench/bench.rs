@@ -158,6 +158,10 @@ fn main() {
     // Decoding puts out K blocks, of which LOST are computed and the rest copied; encoding puts out N - K.
     let beside = decoded.0 / encoded.0;
     let output = K as f64 / LOST as f64;
-    aim("decode beside encode, per byte of output", beside * output, 0.8);
+    aim(
+        "decode beside encode, per byte of output",
+        beside * output,
+        0.8,
+    );
     println!("decode beside encode, per byte of a lost block: {beside:.2}");
 }
