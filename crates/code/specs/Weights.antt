@@ -1,5 +1,6 @@
 -- The parts of `recover` as the code works them out. Assumes nothing.
 use mathlib.Core.List.{List}
+use mathlib.Core.Logic.{_≢_}
 use mathlib.Core.Path.{_≡_}
 use Prim.Native.Nat.{ℕ, suc, _-_, _≤_, _<_}
 use lib.ListN.{length, getD}
@@ -12,6 +13,10 @@ use Rattle.code.specs.Decode.{others, scale, recovered}
 pub record Nodes (nodes : List ℕ) : Type 0 where
   pub few : length nodes ≤ 12
   pub from : (l : ℕ) → l < length nodes → 1 ≤ getD nodes l 0
+
+-- node j is none of them
+abbrev pub Apart : List ℕ → ℕ → Type 0
+Apart nodes j = (l : ℕ) → l < length nodes → getD nodes l 0 ≢ j
 
 -- each above the one before it
 pub record Rising (nodes : List ℕ) : Type 0 where

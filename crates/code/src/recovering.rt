@@ -6,14 +6,14 @@ ghost use lib.ListN.{length};
 ghost use Rattle.blocks.specs.Blocks.{listOf, table};
 ghost use Rattle.code.specs.Combine.{nth, Holds};
 ghost use Rattle.code.specs.Decode;
-ghost use Rattle.code.specs.Weights.{Nodes, Rising, share, restored};
+ghost use Rattle.code.specs.Weights.{Nodes, Apart, Rising, share, restored};
 use crate::combine;
 use crate::nodes::NodeSet;
 use crate::weights;
 
 // The place of node j among the nodes, from 1; or 0.
 fn place_of(nodes: &[u8], j: usize) -> usize
-    ensures { λ r. ⌜ (r ≤ length (now (nodes .entry))) × (0 < r → nth (now (nodes .entry)) r ≡ j) ⌝ }
+    ensures { λ r. ⌜ (r ≤ length (now (nodes .entry))) × (0 < r → nth (now (nodes .entry)) r ≡ j) × (r ≡ 0 → Apart (now (nodes .entry)) j) ⌝ }
 {
     let mut q = 0;
     while q < nodes.len() {

@@ -5,7 +5,8 @@ ghost use lib.ListN.{length};
 ghost use Rattle.code.specs.Code;
 ghost use Rattle.code.specs.Decode;
 ghost use Rattle.code.specs.Combine.{nth};
-ghost use Rattle.code.specs.Weights.{Nodes, First, share};
+ghost use Rattle.code.specs.Weights.{Nodes, Apart, First, share};
+use blocks::doublings::multiply;
 
 // The nodes that can hold data.
 pub fn data_nodes() -> [u8; 12]
@@ -45,7 +46,7 @@ pub fn others(nodes: &[u8], q: usize, t: u8) -> u8
     let mut l = 0;
     while l < nodes.len() {
         if l + 1 != q {
-            r = gf256::product(t ^ (nodes[l] - 1), r);
+            r = multiply(t ^ (nodes[l] - 1), r);
         }
         l += 1;
     }
@@ -68,7 +69,7 @@ fn share_of(nodes: &[u8], q: usize) -> u8
 {
     let j = nodes[q - 1];
     let apart = others(nodes, q, j - 1);
-    gf256::product(scale(nodes.len(), j as usize), gf256::inverse(apart))
+    multiply(scale(nodes.len(), j as usize), gf256::inverse(apart))
 }
 
 pub fn shares(nodes: &[u8]) -> [u8; 12]
@@ -84,18 +85,22 @@ pub fn shares(nodes: &[u8]) -> [u8; 12]
     r
 }
 
-// What the blocks of the nodes count for in that of node j.
+// What the blocks of the nodes count for in that of node j, which is none of them: so the product over all nodes is made once, and the factor of
+// each taken out of it.
 pub fn recover_row(nodes: &[u8], shares: &[u8; 12], j: usize) -> [u8; 12]
-    requires { ⌜ Nodes (now nodes) × (1 ≤ j) × (j ≤ 256)
+    requires { ⌜ Nodes (now nodes) × Apart (now nodes) j × (1 ≤ j) × (j ≤ 256)
         × ((q : ℕ) → 1 ≤ q → q ≤ length (now nodes) → nth (now shares) q ≡ share (length (now nodes)) (nth (now nodes)) q) ⌝ }
     ensures { λ r. ⌜ ((q : ℕ) → 1 ≤ q → q ≤ length (now (nodes .entry)) → nth r q ≡ Decode.recover (length (now (nodes .entry))) (nth (now (nodes .entry))) j q) ⌝ }
 {
-    let rest = gf256::inverse(scale(nodes.len(), j));
+    let t = (j - 1) as u8;
+    let k = nodes.len();
+    let rest = gf256::inverse(scale(k, j));
+    let all = multiply(others(nodes, k + 1, t), rest);
     let mut r = [0u8; 12];
     let mut q = 0;
-    while q < nodes.len() {
-        let apart = gf256::product(others(nodes, q + 1, (j - 1) as u8), rest);
-        r[q] = gf256::product(shares[q], apart);
+    while q < k {
+        let own = gf256::inverse(t ^ (nodes[q] - 1));
+        r[q] = multiply(multiply(shares[q], own), all);
         q += 1;
     }
     r

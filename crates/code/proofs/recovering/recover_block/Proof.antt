@@ -9,6 +9,12 @@ use Rattle.code.proofs.Restored.{nodes-chosen, node-fits, mixed-restore
 use Rattle.code.proofs.recovering.recover_block.Statement.{statement}
 use Rattle.code.proofs.recovering.recover_block.Tie as tie
 
+recover-row-requires : tie.Need-recover-row-requires
+recover-row-requires c κs =
+    let at-place = c .before in
+    let pre = at-place .before .before .before .before .pre in
+    (pre .2, at-place .place-of .ensures .2 (c .if1 .taken), pre .5, pre .6, pre .7)
+
 slice-aggregate-mix : tie.Need-slice-aggregate-mix
 slice-aggregate-mix c =
     let at-start = c .before .before .before .before .before .before .before .before in
@@ -63,7 +69,7 @@ recover-block-spec =
     tie.close
     (tie.spec
     (λ c κs. search needs)
-    (λ c κs. search needs)
+    recover-row-requires
     (λ c. search needs)
     slice-aggregate-mix
     mix-requires

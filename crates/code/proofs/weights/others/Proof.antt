@@ -21,8 +21,8 @@ loop-holds : tie.Need-loop-holds Inv-loop μ-loop
 unfolding Decode.others
 loop-holds c = search needs
 
-sub-product : tie.Need-sub-product Inv-loop μ-loop
-sub-product c = let at-loop = c .before .before .before in at-loop .before .before .pre .from (at-loop .loop .l) (omega arith)
+sub-multiply : tie.Need-sub-multiply Inv-loop μ-loop
+sub-multiply c = let at-loop = c .before .before .before in at-loop .before .before .pre .from (at-loop .loop .l) (omega arith)
 
 loop-again : tie.Need-loop-again Inv-loop μ-loop
 loop-again c =
@@ -49,7 +49,7 @@ others-spec =
     loop-holds
     (λ c. search needs)
     (λ c. search needs)
-    sub-product
+    sub-multiply
     (λ c κs. search needs)
     (λ c. search needs)
     (λ c. search needs)

@@ -8,33 +8,51 @@ use borrow.Author.Needs.{needs}
 use Rattle.code.specs.Combine.{nth}
 use Rattle.code.specs.Decode as Decode
 use Rattle.code.proofs.Entries.{Entries, entries-none, entries-turn}
+use Rattle.code.proofs.Weighing.{recover-turn}
 use Rattle.code.proofs.weights.recover_row.Statement.{statement}
 use Rattle.code.proofs.weights.recover_row.Tie as tie
 
 abbrev Inv-loop : tie.InvT-loop
-Inv-loop nodes shares j rest r₀ q₀ r q = (q ≤ length nodes) × Entries 12 (Decode.recover (length nodes) (nth nodes) j) q r
+Inv-loop nodes shares j t k rest all r₀ q₀ r q = (q ≤ length nodes) × Entries 12 (Decode.recover (length nodes) (nth nodes) j) q r
 
 abbrev μ-loop : tie.MeasureT-loop
-μ-loop nodes shares j rest r₀ q₀ r q = length nodes - q
+μ-loop nodes shares j t k rest all r₀ q₀ r q = length nodes - q
 
 loop-holds : tie.Need-loop-holds Inv-loop μ-loop
 loop-holds c = (search needs, entries-none _ _ _ refl)
 
+sub-inverse : tie.Need-sub-inverse Inv-loop μ-loop
+sub-inverse c =
+    let at-loop = c .before .before in
+    at-loop .before .before .before .before .before .before .pre .0 .from (at-loop .loop .q) (omega arith)
+
 loop-again : tie.Need-loop-again Inv-loop μ-loop
-unfolding Decode.recover
 loop-again c =
-    let at-product = c .before .before in
-    let at-others = at-product .before in
-    let at-loop = at-others .before .before in
-    let at-inverse = at-loop .before in
-    let at-scale = at-inverse .before in
-    let at-start = at-scale .before .before in
+    let at-share = c .before in
+    let at-own = at-share .before .before in
+    let at-loop = at-own .before .before .before in
+    let at-all = at-loop .before in
+    let at-others = at-all .before in
+    let at-rest = at-others .before in
+    let at-scale = at-rest .before in
+    let at-nodes = at-scale .before in
+    let at-start = at-nodes .before in
+    let pre = at-start .pre in
     let q = at-loop .loop .q in
-    let share-here = ap (λ i. getD (at-start .args .shares .now) i 0) (sym (add-sub-cancel q 1)) ∙ at-start .pre .3 (q + 1) (omega arith) (omega arith) in
-    let weight : c .product2 .result ≡ Decode.recover (length (at-start .args .nodes .now)) (nth (at-start .args .nodes .now)) (at-start .args .j) (q + 1) =
-    c .product2 .ensures
-    ∙ rw (at-product .product .ensures, at-others .others .ensures, at-inverse .inverse .ensures, at-scale .scale .ensures, share-here) in
-    (search needs, entries-turn _ _ _ _ _ (omega (arith, at-start .pre .0 .few)) weight (at-loop .loop .inv .1))
+    let share-here = ap (λ i. getD (at-start .args .shares .now) i 0) (sym (add-sub-cancel q 1)) ∙ pre .4 (q + 1) (omega arith) (omega arith) in
+    let weight : c .multiply3 .result ≡ Decode.recover (length (at-start .args .nodes .now)) (nth (at-start .args .nodes .now)) (at-start .args .j) (q + 1) =
+    c .multiply3 .ensures
+    ∙ rw (
+      at-share .multiply2 .ensures,
+      at-own .inverse2 .ensures,
+      at-all .multiply .ensures,
+      at-others .others .ensures,
+      at-rest .inverse .ensures,
+      at-scale .scale .ensures,
+      share-here,
+    )
+    (recover-turn (at-start .args .nodes .now) (pre .0) (λ l. omega (arith, at-nodes .shared-slice-known .given l)) (at-start .args .j) (pre .2) (pre .3) (pre .1) q (omega arith)) in
+    (search needs, entries-turn _ _ _ _ _ (omega (arith, pre .0 .few)) weight (at-loop .loop .inv .1))
 
 returns : tie.Need-returns Inv-loop μ-loop
 returns c = λ q q1 qk. c .before .loop .inv .1 .done q q1 (omega arith)
@@ -45,15 +63,19 @@ recover-row-spec =
     (tie.spec
     Inv-loop
     μ-loop
+    (λ c. search needs)
+    (λ c. search needs)
+    (λ c κs. search needs)
+    (λ c κs. search needs)
+    (λ c. search needs)
     (λ c κs. search needs)
     (λ c κs. search needs)
     loop-holds
     (λ c. search needs)
-    (λ c. search needs)
-    (λ c. search needs)
-    (λ c κs. search needs)
+    sub-inverse
     (λ c κs. search needs)
     (λ c. search needs)
+    (λ c κs. search needs)
     (λ c κs. search needs)
     (λ c. search needs)
     (λ c. search needs)

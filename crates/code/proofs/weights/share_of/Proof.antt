@@ -23,7 +23,7 @@ returns : tie.Need-returns
 returns c =
     let at-inverse = c .before in
     let at-scale = at-inverse .before in
-    c .product .ensures ∙ rw (at-scale .scale .ensures, at-inverse .inverse .ensures, at-scale .before .others .ensures)
+    c .multiply .ensures ∙ rw (at-scale .scale .ensures, at-inverse .inverse .ensures, at-scale .before .others .ensures)
 
 pub share-of-spec : {M : Type 1} → statement M
 share-of-spec =
