@@ -3,7 +3,7 @@ use mathlib.Core.Path.{_≡_, refl, sym, ap, ap₂, _∙_}
 use mathlib.Core.Logic.{_≢_, _⊎_, inl, inr}
 use mathlib.Core.Bool.{Bool, true, false, cond, _&&_, _||_, not, and-assoc, or-assoc, or-true, or-false}
 use mathlib.Core.List.{List, [], _∷_, _++_, map, append-assoc, append-nil}
-use Prim.Native.Nat.{ℕ, zero, suc, _+_, _≤_, _<_}
+use Prim.Native.Nat.{ℕ, zero, suc, _+_, _-_, _≤_, _<_}
 use native.Mathlib.Nat.{eq-or-lt-of-le, le-of-suc-le-suc}
 use native.Mathlib.Numerals.{add-one}
 use native.Mathlib.Omega.{arith}
@@ -28,7 +28,7 @@ use Rattle.records.specs.declared.node_entries.EntryChange.the-variants 
 use Rattle.records.specs.Entries.{isRecent, isIn, isListed, isRecentIn, isOldIn, lastRecent, lastRecentAfter, newEntry, aged, discard, markOld, someDue}
 use Rattle.records.specs.Node.{idWithin, entriesWithin}
 use Rattle.records.specs.Client.{idsWithin}
-use Rattle.records.specs.Lists.{idPasses, someIdPasses, passes, somePasses, isOutside, olderEntry, isKept, offered, changed, lastRecentOf}
+use Rattle.records.specs.Lists.{idPasses, someIdPasses, passes, somePasses, isOutside, olderEntry, isKept, offered, changed}
 use Rattle.records.specs.View.{blankId, idsOf, entriesOf}
 
 pub listOf-more : {A : Type 0} (i : ℕ) (at : ℕ → A) → listOf (i + 1) at ≡ listOf i at ++ (at i ∷ [])
@@ -237,29 +237,36 @@ module _ {d : Entry} {old : List Entry} {n : ℕ} where
     pub age-end : n ≤ i → listOf n (λ p. getD now p d) ≡ aged (listOf n (λ p. getD old p d))
     age-end h = let e : i ≡ n = omega arith in rw e at (q .is)
 
--- ---- a loop that remembers the last recent id
+-- ---- a loop that looks for the last recent id, from the end
 
-last-last : (p : Previous) (es : List Entry) (e : Entry) → lastRecentAfter p (es ++ (e ∷ [])) ≡ lastRecentOf e (lastRecentAfter p es)
+last-last : (p : Previous) (es : List Entry) (e : Entry)
+    → lastRecentAfter p (es ++ (e ∷ [])) ≡ cond (isRecent e) (Id (e .id)) (lastRecentAfter p es)
 unfolding lastRecentAfter
 last-last p [] e = refl
-last-last p (x ∷ es) e = last-last (lastRecentOf x p) es e
+last-last p (x ∷ es) e = last-last (cond (isRecent x) (Id (x .id)) p) es e
 
--- p is the last recent id of the first i of n entries
-pub record Lasting (at : ℕ → Entry) (p : Previous) (i n : ℕ) : Type 0 where
+-- none of the n entries is recent after the first i
+pub record Lasting (at : ℕ → Entry) (i n : ℕ) : Type 0 where
   pub within : i ≤ n
-  pub is : p ≡ lastRecent (listOf i at)
+  pub is : lastRecent (listOf n at) ≡ lastRecent (listOf i at)
 
 module _ {at : ℕ → Entry} {n : ℕ} where
-  pub last-start : Lasting at Nothing 0 n
-  unfolding listOf lastRecentAfter
+  pub last-start : Lasting at n n
   last-start = record { within = omega arith; is = refl }
 
-  module _ {p : Previous} {i : ℕ} (q : Lasting at p i n) where
-    pub last-on : {r : Previous} → i < n → r ≡ lastRecentOf (at i) p → Lasting at r (i + 1) n
-    last-on h e = record {
-      within = omega arith;
-      is = e ∙ ap (lastRecentOf (at i)) (q .is) ∙ sym (ap lastRecent (listOf-more i at) ∙ last-last Nothing (listOf i at) (at i));
-    }
+  module _ {i : ℕ} (q : Lasting at i n) (h : 0 < i) where
+    -- by the entry before the first i
+    turn : lastRecent (listOf n at) ≡ cond (isRecent (at (i - 1))) (Id (at (i - 1) .id)) (lastRecent (listOf (i - 1) at))
+    turn =
+        let e : i ≡ (i - 1) + 1 = omega arith in
+        q .is ∙ ap (λ l. lastRecent (listOf l at)) e ∙ ap lastRecent (listOf-more (i - 1) at) ∙ last-last Nothing (listOf (i - 1) at) (at (i - 1))
 
-    pub last-end : n ≤ i → p ≡ lastRecent (listOf n at)
-    last-end h = let e : i ≡ n = omega arith in rw e at (q .is)
+    pub last-hit : isRecent (at (i - 1)) ≡ true → Id (at (i - 1) .id) ≡ lastRecent (listOf n at)
+    last-hit e = sym (turn ∙ rw e)
+
+    pub last-on : isRecent (at (i - 1)) ≡ false → Lasting at (i - 1) n
+    last-on e = record { within = omega (arith, q .within); is = turn ∙ rw e }
+
+  pub last-end : {i : ℕ} → Lasting at i n → i ≤ 0 → Nothing ≡ lastRecent (listOf n at)
+  unfolding listOf lastRecentAfter
+  last-end {i} q h = let e : i ≡ 0 = omega arith in sym (q .is ∙ ap (λ l. lastRecent (listOf l at)) e)

@@ -62,7 +62,3 @@ offered Discard ids e = cond (isKept ids e) (e ∷ []) []
 abbrev pub changed : EntryChange → List WriteId → List Entry → List Entry
 changed Mark ids es = markOld ids es
 changed Discard ids es = discard ids es
-
--- the last recent id, one entry later
-abbrev pub lastRecentOf : Entry → Previous → Previous
-lastRecentOf e p = cond (isRecent e) (Id (e .id)) p

@@ -7,7 +7,7 @@ ghost use lib.Dec.{leb};
 ghost use lib.ListN.{length};
 ghost use Rattle.records.specs.Entries.{isRecent, isListed, isRecentIn, isOldIn, lastRecent, previousRecent, newEntry, aged, enter, discard, markOld, someDue};
 ghost use Rattle.records.specs.Node.{entryLimit, entriesWithin};
-ghost use Rattle.records.specs.Lists.{passes, somePasses, isOutside, olderEntry, markedEntry, isKept, offered, changed, lastRecentOf};
+ghost use Rattle.records.specs.Lists.{passes, somePasses, isOutside, olderEntry, markedEntry, isKept, offered, changed};
 ghost use Rattle.records.specs.View.{idsOf, entriesOf};
 use crate::Age;
 use crate::Entries;
@@ -117,18 +117,6 @@ impl Entry {
         let id = self.id;
         self.is_recent() || !ids.has(id)
     }
-
-    // The last recent id, where it was p before this entry.
-    fn last_recent(self, p: Previous) -> Previous
-        ensures { λ r. ⌜ r ≡ lastRecentOf self p ⌝ }
-    {
-        let id = self.id;
-        if self.is_recent() {
-            Previous::Id(id)
-        } else {
-            p
-        }
-    }
 }
 
 impl Entries {
@@ -236,20 +224,22 @@ impl Entries {
         self.count <= Entries::LIMIT && !self.some_outside(z)
     }
 
+    // Searched from the end: the entry that came last is nearly always recent.
     pub fn last_recent(self) -> Previous
         requires { ⌜ self .count ≤ 16 ⌝ }
         ensures { λ r. ⌜ r ≡ lastRecent (entriesOf self) ⌝ }
     {
-        let n = self.count;
         let items = self.items;
-        let mut p = Previous::Nothing;
-        let mut i = 0;
-        while i < n {
+        let mut i = self.count;
+        while 0 < i {
+            i -= 1;
             let e = items[i];
-            p = e.last_recent(p);
-            i += 1;
+            if e.is_recent() {
+                let id = e.id;
+                return Previous::Id(id);
+            }
         }
-        p
+        Previous::Nothing
     }
 
     // The list with what the change leaves of one entry more.

@@ -1,19 +1,29 @@
--- p is the last recent id of the first i entries. Assumes nothing.
-use Prim.Native.Nat.{_-_}
+-- No entry after the first i is recent. Assumes nothing.
+use mathlib.Core.Path.{sym, _∙_}
 use native.Mathlib.Omega.{arith}
 use lib.ListN.{getD}
 use borrow.Author.Needs.{needs}
 use Rattle.records.specs.Entries.{newEntry}
 use Rattle.records.specs.View.{blankId}
-use Rattle.records.proofs.Lists.{Lasting, last-start, last-on, last-end}
+use Rattle.records.proofs.Lists.{Lasting, last-start, last-hit, last-on, last-end}
 use Rattle.records.proofs.Entries.last_recent.Statement.{statement}
 use Rattle.records.proofs.Entries.last_recent.Tie as tie
 
 abbrev Inv-loop : tie.InvT-loop
-Inv-loop n items p₀ i₀ p i = Lasting (λ j. getD items j (newEntry blankId)) p i n
+Inv-loop items i₀ i = Lasting (λ j. getD items j (newEntry blankId)) i i₀
 
 abbrev μ-loop : tie.MeasureT-loop
-μ-loop n items p₀ i₀ p i = n - i
+μ-loop items i₀ i = i
+
+returns : tie.Need-returns Inv-loop μ-loop
+returns c =
+    let at-test = c .before .before in
+    last-hit (at-test .before .before .before .loop .inv) (omega arith) (sym (at-test .is-recent .ensures) ∙ c .before .if1 .taken)
+
+loop-again : tie.Need-loop-again Inv-loop μ-loop
+loop-again c =
+    let at-test = c .before in
+    last-on (at-test .before .before .before .loop .inv) (omega arith) (sym (at-test .is-recent .ensures) ∙ c .if1 .left)
 
 pub last-recent-spec : {M : Type 1} → statement M
 last-recent-spec =
@@ -24,8 +34,9 @@ last-recent-spec =
     (λ c. last-start)
     (λ c. search needs)
     (λ c. search needs)
+    (λ c. search needs)
     (λ c κs. search needs)
+    returns
     (λ c. search needs)
-    (λ c. search needs)
-    (λ c. last-on (c .before .before .before .loop .inv) (omega arith) (c .last-recent .ensures))
+    loop-again
     (λ c. last-end (c .before .loop .inv) (omega arith)))
