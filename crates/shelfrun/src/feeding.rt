@@ -46,6 +46,18 @@ impl Shelf {
             stripe: stripe,
         }
     }
+
+    fn kept(lines: u64, begun: bool, reader: LineReader, value: u8, stripe: Stripe) -> Self
+        ensures { λ r. ⌜ r ≡ record { lines = lines; begun = begun; reader = reader; value = value; stripe = stripe } ⌝ }
+    {
+        Shelf {
+            lines: lines,
+            begun: begun,
+            reader: reader,
+            value: value,
+            stripe: stripe,
+        }
+    }
 }
 
 // The line comes to its end.
@@ -127,17 +139,8 @@ pub fn feed(
             begun = true;
         }
     }
-    let after = Shelf {
-        lines: lines,
-        begun: begun,
-        reader: reader,
-        value: value[0],
-        stripe: stripe,
-    };
-    Fed {
-        shelf: after,
-        end: end,
-    }
+    let after = Shelf::kept(lines, begun, reader, value[0], stripe);
+    Fed { shelf: after, end }
 }
 
 // The last line, if it has begun: it lacks its end.

@@ -130,19 +130,19 @@ loop-again-2 c =
           (within-line (c .before .before .before .if1 .left) (step .ensures)),
     )
 
-array-read-t39 : tie.Need-array-read-t39 Inv-loop μ-loop
-array-read-t39 c = omega (arith, c .before .loop .inv .7)
+array-read-kept : tie.Need-array-read-kept Inv-loop μ-loop
+array-read-kept c = omega (arith, c .before .loop .inv .7)
 
 returns : tie.Need-returns Inv-loop μ-loop
 returns c =
-    let at-loop = c .before in
+    let at-loop = c .before .before in
     let start = at-loop .before .before .before .before .before .before .before in
     let inv = at-loop .loop .inv in
     let fits : at-loop .loop .end ≤ length (at-loop .loop .out) = omega (arith, inv .0, inv .2, inv .3, start .pre .1) in (
       (fits, sym (length-take-le _ _ fits)),
-      (
+      rw (c .kept .ensures) (
         omega (arith, inv .0, inv .1),
-        fed-all (take-all _ _ (c .loop-test .left)) (inv .7) (inv .8),
+        fed-all (take-all _ _ (c .before .loop-test .left)) (inv .7) (inv .8),
       ),
     )
 
@@ -170,7 +170,8 @@ feed-spec =
     (λ c κs. search needs)
     loop-less-2
     loop-again-2
-    array-read-t39
+    array-read-kept
+    (λ c κs. search needs)
     (λ c. search needs)
     (λ c. search needs)
     (λ c. search needs)
