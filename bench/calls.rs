@@ -10,7 +10,8 @@ const N: usize = 18;
 const LOST: usize = N - K;
 const LENGTHS: [usize; 3] = [1, 512, 4096];
 const TIMES: usize = 256;
-const STRIPES: usize = 16_384;
+/// The most stripes that a volume has; and so many that no cache holds what a call on each of them touches.
+const SHELVES: [usize; 2] = [1_024, 16_384];
 
 #[link(name = "callbench", kind = "static")]
 extern "C" {
@@ -192,7 +193,7 @@ fn measure_add(b: usize) -> f64 {
     )
 }
 
-/// The tables of many stripes: no core's cache holds them.
+/// The tables of many stripes.
 struct Shelf {
     b: usize,
     values: Vec<u8>,
@@ -201,12 +202,12 @@ struct Shelf {
 }
 
 impl Shelf {
-    fn new(b: usize) -> Self {
+    fn new(stripes: usize, b: usize) -> Self {
         Shelf {
             b,
-            values: noise(STRIPES * b),
-            blocks: vec![0; STRIPES * N * b],
-            differences: vec![0; STRIPES * b],
+            values: noise(stripes * b),
+            blocks: vec![0; stripes * N * b],
+            differences: vec![0; stripes * b],
         }
     }
 
@@ -231,10 +232,10 @@ impl Shelf {
 
 /// A call on each stripe of a shelf, beside the same with blocks of one byte: what it costs there is what it costs beside its bytes.
 /// Returns the share of the bytes.
-fn measure_shelf(name: &str, b: usize, calls: fn(&mut Shelf)) -> f64 {
-    let (mut shelf, mut bare) = (Shelf::new(b), Shelf::new(1));
+fn measure_shelf(name: &str, stripes: usize, b: usize, calls: fn(&mut Shelf)) -> f64 {
+    let (mut shelf, mut bare) = (Shelf::new(stripes, b), Shelf::new(stripes, 1));
     let [call, beside] = best_of(|| calls(&mut shelf), || calls(&mut bare))
-        .map(|seconds| seconds / STRIPES as f64 * 1e9);
+        .map(|seconds| seconds / stripes as f64 * 1e9);
     let share = 1.0 - beside / call;
     println!(
         "{name:<8}{b:>6}{call:>12.0}{:>12.0}{share:>8.2}",
@@ -263,21 +264,30 @@ fn measure_rebuild(b: usize) {
     println!("rebuild beside encode, ratio: {:.2}", rebuilt / encoded);
 }
 
+/// A swap and an add on each of so many stripes. Returns the leaf's share of each at 4096.
+fn measure_shelves(stripes: usize) -> [f64; 2] {
+    let calls: [(&str, fn(&mut Shelf)); 2] = [("swap", Shelf::swaps), ("add", Shelf::adds)];
+    let shares = calls.map(|(name, calls)| {
+        let [_, share] = [512, 4096].map(|b| measure_shelf(name, stripes, b, calls));
+        share
+    });
+    println!("Each call on another of {stripes} stripes; the leaf is what the call takes more than with blocks of one byte.");
+    shares
+}
+
 fn main() {
     println!("ns            B      a call    its leaf   share");
     let [_, _, swapped] = LENGTHS.map(measure_swap);
     let [_, _, added] = LENGTHS.map(measure_add);
-    println!("The node's record goes from call to call, its list having 0 to 15 entries. All buffers stay in the cache.");
-    let [_, shelf_swapped] = [512, 4096].map(|b| measure_shelf("swap", b, Shelf::swaps));
-    let [_, shelf_added] = [512, 4096].map(|b| measure_shelf("add", b, Shelf::adds));
-    println!("Each call on another of {STRIPES} stripes; the leaf is what the call takes more than with blocks of one byte.");
+    println!("One stripe again and again, all in the cache; the node's record goes from call to call, its list having 0 to 15 entries.");
+    let on_shelves = SHELVES.map(measure_shelves);
     measure_rebuild(4096);
     aim("swap at 4096 in the cache, the leaf's share", swapped, 0.8);
     aim("add at 4096 in the cache, the leaf's share", added, 0.8);
-    aim(
-        "swap at 4096 on a shelf, the leaf's share",
-        shelf_swapped,
-        0.8,
-    );
-    aim("add at 4096 on a shelf, the leaf's share", shelf_added, 0.8);
+    for (stripes, shares) in SHELVES.into_iter().zip(on_shelves) {
+        for (name, share) in ["swap", "add"].into_iter().zip(shares) {
+            let what = format!("{name} at 4096 on {stripes} stripes, the leaf's share");
+            aim(&what, share, 0.8);
+        }
+    }
 }
