@@ -57,7 +57,7 @@ module _ (nodes : List ℕ) (n : Nodes nodes) (bytes : (l : ℕ) → getD nodes 
 
   pub recover-turn : (q : ℕ) → q < length nodes
       → (share (length nodes) (nth nodes) (q + 1) ⊗ inverse ((j - 1) ⊕ (getD nodes q 0 - 1)))
-          ⊗ (others (nth nodes) (length nodes) (length nodes + 1) (j - 1) ⊗ inverse (scale (length nodes) j))
+      ⊗ (others (nth nodes) (length nodes) (length nodes + 1) (j - 1) ⊗ inverse (scale (length nodes) j))
       ≡ recover (length nodes) (nth nodes) j (q + 1)
   recover-turn q l =
       let here = ap (λ i. getD nodes i 0) (add-sub-cancel q 1) in
