@@ -10,7 +10,7 @@ const N: usize = 18;
 const LOST: usize = N - K;
 const LENGTHS: [usize; 3] = [1, 512, 4096];
 const TIMES: usize = 256;
-/// The most stripes that a volume has; and so many that no cache holds what a call on each of them touches.
+/// The most stripes that request C-11 asks of a volume; and so many that no cache holds what a call on each of them touches.
 const SHELVES: [usize; 2] = [1_024, 16_384];
 
 #[link(name = "callbench", kind = "static")]

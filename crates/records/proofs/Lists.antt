@@ -255,7 +255,7 @@ module _ {at : ℕ → Entry} {n : ℕ} where
   last-start = record { within = omega arith; is = refl }
 
   module _ {i : ℕ} (q : Lasting at i n) (h : 0 < i) where
-    -- by the entry before the first i
+    -- by the last of the first i
     turn : lastRecent (listOf n at) ≡ cond (isRecent (at (i - 1))) (Id (at (i - 1) .id)) (lastRecent (listOf (i - 1) at))
     turn =
         let e : i ≡ (i - 1) + 1 = omega arith in

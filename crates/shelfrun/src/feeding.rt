@@ -47,6 +47,7 @@ impl Shelf {
         }
     }
 
+    // What is kept after some bytes.
     fn kept(lines: u64, begun: bool, reader: LineReader, value: u8, stripe: Stripe) -> Self
         ensures { λ r. ⌜ r ≡ record { lines = lines; begun = begun; reader = reader; value = value; stripe = stripe } ⌝ }
     {
