@@ -1,3 +1,3 @@
 pub mod Blocks
 pub mod Doublings
-pub mod Sums
+pub mod Lanes

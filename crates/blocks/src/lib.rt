@@ -1,15 +1,12 @@
 // Blocks of bytes, and one block of a table of blocks.
 pub mod doublings; // doublings.rt: products of one byte by many
+pub mod lanes; // lanes.rt: sixteen bytes at a time
 
-ghost use mathlib.Core.List.{[], _∷_, map};
 ghost use mathlib.Core.Path.{_≡_};
 ghost use Prim.Native.Nat.{_+_, _-_, _*_, _≤_};
-ghost use lib.Bits.{bitXor};
 ghost use lib.ListN.{length, replicate};
-ghost use Rattle.gf256.specs.Field;
 ghost use Rattle.blocks.specs.Blocks;
-ghost use Rattle.blocks.specs.Blocks.{setBlock, zip, addTimes};
-ghost use Rattle.blocks.specs.Sums.{plusAll};
+ghost use Rattle.blocks.specs.Blocks.{setBlock, addTimes};
 use doublings::Doublings;
 
 // Zero at each place.
@@ -48,18 +45,6 @@ pub fn swap(block: &mut [u8], difference: &mut [u8], value: &[u8])
     }
 }
 
-// dst plus src.
-pub fn add(dst: &mut [u8], src: &[u8])
-    requires { ⌜ length (now dst) ≡ length (now src) ⌝ }
-    ensures { λ _. ⌜ now (dst .exit) ≡ zip bitXor (now (dst .entry)) (now (src .entry)) ⌝ }
-{
-    let mut i = 0;
-    while i < src.len() {
-        dst[i] = dst[i] ^ src[i];
-        i += 1;
-    }
-}
-
 // dst plus c times src.
 pub fn add_times(dst: &mut [u8], src: &[u8], c: u8)
     requires { ⌜ length (now dst) ≡ length (now src) ⌝ }
@@ -70,30 +55,6 @@ pub fn add_times(dst: &mut [u8], src: &[u8], c: u8)
     while i < src.len() {
         let p = m.times(src[i]);
         dst[i] = dst[i] ^ p;
-        i += 1;
-    }
-}
-
-// x times dst.
-pub fn double(dst: &mut [u8])
-    ensures { λ _. ⌜ now (dst .exit) ≡ map Field.double (now (dst .entry)) ⌝ }
-{
-    let mut i = 0;
-    while i < dst.len() {
-        dst[i] = gf256::double(dst[i]);
-        i += 1;
-    }
-}
-
-// dst plus four blocks of t at once: those that start at p, q, r and s.
-pub fn add_four(dst: &mut [u8], t: &[u8], p: usize, q: usize, r: usize, s: usize)
-    requires { ⌜ (p + length (now dst) ≤ length (now t)) × (q + length (now dst) ≤ length (now t))
-        × (r + length (now dst) ≤ length (now t)) × (s + length (now dst) ≤ length (now t)) ⌝ }
-    ensures { λ _. ⌜ now (dst .exit) ≡ plusAll (length (now (dst .entry))) (now (t .entry)) (p ∷ q ∷ r ∷ s ∷ []) (now (dst .entry)) ⌝ }
-{
-    let mut i = 0;
-    while i < dst.len() {
-        dst[i] = dst[i] ^ t[p + i] ^ t[q + i] ^ t[r + i] ^ t[s + i];
         i += 1;
     }
 }

@@ -11,8 +11,9 @@ use lib.Seq.{drop-cons, take-suc, take-all}
 use borrow.Author.Tests.{le-leb, lt-leb}
 use Rattle.blocks.specs.Blocks.{listOf}
 use Rattle.blocks.proofs.Tables.{listOf-cong}
-use Rattle.code.specs.Decode.{has, setOf}
+use Rattle.code.specs.Decode.{setOf, including}
 use Rattle.code.specs.Calls.{isIn, someOutside, given}
+use Rattle.code.proofs.Invertible.{eqb-comm}
 use Rattle.code.proofs.NodeSets.{has-setOf}
 
 -- ---- the search for a node that is none of 1 to n
@@ -47,13 +48,16 @@ is-in-last (y ∷ xs) x j = rw (isIn, is-in-last xs x j) (sym (or-assoc (eqb y j
 
 -- one node more
 pub given-next : (nodes : List ℕ) (i : ℕ) → i < length nodes
-    → setOf (λ j. has (given (take i nodes)) j || eqb (getD nodes i 0) j) ≡ given (take (i + 1) nodes)
+    → including (getD nodes i 0) (given (take i nodes)) ≡ given (take (i + 1) nodes)
 unfolding setOf
 given-next nodes i l =
     listOf-cong 18 _ _
     (λ j lj.
     rw (add-one i, take-suc nodes i 0 l, has-setOf (isIn (take i nodes)) (suc j) (omega arith) (omega arith))
-    (sym (is-in-last (take i nodes) (getD nodes i 0) (suc j))))
+    (sym (is-in-last (take i nodes) (getD nodes i 0) (suc j) ∙ turned (isIn (take i nodes) (suc j)) (getD nodes i 0) (suc j))))
+  where
+    turned : (b : Bool) (x y : ℕ) → (b || eqb x y) ≡ (eqb y x || b)
+    turned b x y = or-comm b (eqb x y) ∙ ap (λ e. e || b) (eqb-comm x y)
 
 pub given-all : (nodes : List ℕ) (i : ℕ) → length nodes ≤ i → given (take i nodes) ≡ given nodes
 given-all nodes i l = rw (take-all i nodes l)

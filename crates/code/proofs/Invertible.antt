@@ -1,4 +1,4 @@
--- What "the k chosen rows have an inverse" means, and that those of k distinct nodes have one. Assumes nothing.
+-- The k chosen rows of k distinct nodes have an inverse, and the test says so (specs/Determined.antt). Assumes nothing.
 use mathlib.Core.Bool.{Bool, true, false, cond}
 use mathlib.Core.Logic.{_≢_}
 use mathlib.Core.Path.{_≡_, refl, sym, _∙_}
@@ -11,21 +11,13 @@ use Rattle.gf256.proofs.Computed.{never-both}
 use Rattle.gf256.proofs.Laws.{product-comm, product-zero, one-product, inverse-byte}
 use Rattle.code.specs.Code.{coefficient, row, symbol}
 use Rattle.code.specs.Decode.{recovered, each, invertible}
+use Rattle.code.specs.Determined.{Solves, Invertible, Decides}
 use Rattle.code.proofs.Ring.{_⊕_, _⊗_}
 use Rattle.code.proofs.Sum.{All, sum-one}
 use Rattle.code.proofs.Symbols.{symbol-data, symbol-redundant}
 use Rattle.code.proofs.Recover.{Chosen, recovered-byte, recover-agrees, recover-symbol}
 
--- ---- the meaning
-
--- x are data of which the nodes s 1, .. s k hold y
-pub record Solves (k : ℕ) (s y x : ℕ → ℕ) : Type 0 where
-  pub bytes : All k (λ i. x i < 256)
-  pub holds : All k (λ q. symbol k (s q) x ≡ y q)
-
--- whatever bytes the nodes hold, some data have them
-abbrev pub Invertible : ℕ → (ℕ → ℕ) → Type 0
-Invertible k s = (y : ℕ → ℕ) → All k (λ q. y q < 256) → (x : ℕ → ℕ) × Solves k s y x
+-- ---- k distinct nodes have one
 
 pub chosen-invertible : (k : ℕ) (s : ℕ → ℕ) → k ≤ 256 → Chosen k s → Invertible k s
 chosen-invertible k s lk c y b =
@@ -38,7 +30,7 @@ unfolding each
 each-true zero p e = refl
 each-true (suc k) p e = rw (each, e (suc k) (omega arith) (omega arith), each-true k p (λ i i1 ik. e i i1 (omega arith)))
 
-eqb-comm : (a b : ℕ) → eqb a b ≡ eqb b a
+pub eqb-comm : (a b : ℕ) → eqb a b ≡ eqb b a
 eqb-comm a b = by (ℕ-discrete a b)
   where
     by : Dec (a ≡ b) → eqb a b ≡ eqb b a
@@ -81,10 +73,6 @@ invertible-chosen k s lk c =
     entry i l = eqb (recovered k s (λ q. row k (s q) l) i) (unit l i)
 
 -- ---- the test says what it means, of distinct nodes
-
-pub record Decides (k : ℕ) (s : ℕ → ℕ) : Type 0 where
-  pub right : invertible k s ≡ true → Invertible k s
-  pub wrong : invertible k s ≡ false → ¬ Invertible k s
 
 pub invertible-decides : (k : ℕ) (s : ℕ → ℕ) → k ≤ 256 → Chosen k s → Decides k s
 invertible-decides k s lk c =

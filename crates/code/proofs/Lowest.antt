@@ -14,7 +14,7 @@ use Rattle.code.specs.Weights.{Nodes, Rising, restored}
 use Rattle.code.proofs.Sum.{All}
 use Rattle.code.proofs.NodeSets.{lowest-from, lowest-has, lowest-rises}
 use Rattle.code.proofs.Members.{Lists}
-use Rattle.code.proofs.Mixing.{nth-take}
+use Rattle.code.proofs.Mixed.{nth-take}
 use Rattle.code.proofs.Weighing.{recovered-nodes}
 
 module _ (s : List Bool) (r : List ℕ) (at : Lists (members s) r) (k : ℕ) (enough : k ≤ size s) (k12 : k ≤ 12) (long : 12 ≤ length r) where

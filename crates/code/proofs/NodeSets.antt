@@ -1,15 +1,16 @@
 -- The members of a set of nodes, in rising order. Assumes nothing.
-use mathlib.Core.Bool.{Bool, true, false, cond}
+use mathlib.Core.Bool.{Bool, true, false, cond, _&&_, _||_, not}
 use mathlib.Core.List.{[], _∷_}
 use mathlib.Core.Logic.{_≢_}
 use mathlib.Core.Path.{_≡_, refl, sym, ap, _∙_}
 use Prim.Native.Nat.{ℕ, zero, suc, _+_, _-_, _≤_, _<_}
 use native.Mathlib.Decide.{decLt}
 use native.Mathlib.Omega.{arith}
+use lib.Dec.{eqb}
 use lib.ListN.{length, getD, List·getD-eq-default}
 use Rattle.gf256.proofs.Computed.{never-both}
 use Rattle.blocks.proofs.Tables.{length-listOf, getD-listOf}
-use Rattle.code.specs.Decode.{NodeSet, has, setOf, membersFrom, size, lowest, invertible}
+use Rattle.code.specs.Decode.{NodeSet, has, setOf, including, excluding, membersFrom, size, lowest, invertible}
 use Rattle.code.proofs.Sum.{All}
 use Rattle.code.proofs.Invertible.{invertible-chosen}
 use Rattle.code.proofs.Recover.{Chosen}
@@ -48,6 +49,19 @@ setOf-has p (suc j) e =
 
 pub has-setOf-past : (p : ℕ → Bool) (j : ℕ) → 18 < j → has (setOf p) j ≡ false
 has-setOf-past p j l = has-past (setOf p) j (rw (length-setOf p) l)
+
+-- node j is put in if b, and else taken out
+pub has-put : (b : Bool) (j : ℕ) (s : NodeSet) (i : ℕ) → 1 ≤ i → i ≤ 18 → has (cond b (including j s) (excluding j s)) i ≡ cond (eqb i j) b (has s i)
+has-put true j s i l1 l18 = has-setOf (λ l. eqb l j || has s l) i l1 l18 ∙ by (eqb i j) (has s i)
+  where
+    by : (e h : Bool) → (e || h) ≡ cond e true h
+    by true h = refl
+    by false h = refl
+has-put false j s i l1 l18 = has-setOf (λ l. not (eqb l j) && has s l) i l1 l18 ∙ by (eqb i j) (has s i)
+  where
+    by : (e h : Bool) → (not e && h) ≡ cond e false h
+    by true h = refl
+    by false h = refl
 
 -- ---- the members of s, the first place being that of node j
 
@@ -119,7 +133,7 @@ unfoldable pub count : ℕ → (ℕ → Bool) → ℕ
 count zero p = 0
 count (suc n) p = count n p + cond (p (suc n)) 1 0
 
-count-ext : (n : ℕ) (p r : ℕ → Bool) → All n (λ j. p j ≡ r j) → count n p ≡ count n r
+pub count-ext : (n : ℕ) (p r : ℕ → Bool) → All n (λ j. p j ≡ r j) → count n p ≡ count n r
 unfolding count
 count-ext zero p r e = refl
 count-ext (suc n) p r e = rw (count, e (suc n) (omega arith) (omega arith), count-ext n p r (λ j l1 ln. e j l1 (omega arith)))

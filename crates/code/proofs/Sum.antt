@@ -6,11 +6,11 @@ use native.Mathlib.Nat.{le-of-suc-le-suc, eq-or-lt-of-le}
 use native.Mathlib.Omega.{arith}
 use Rattle.gf256.proofs.Xor.{xor-zero-r, xor-byte}
 use Rattle.code.specs.Code.{sum}
+use Rattle.code.specs.Determined.{OfEach}
 use Rattle.code.proofs.Ring.{_⊕_, _⊗_, ring}
 
--- P holds of 1 to k
 abbrev pub All : ℕ → (ℕ → Type 0) → Type 0
-All k P = (i : ℕ) → 1 ≤ i → i ≤ k → P i
+All = OfEach
 
 pub sum-ext : (k : ℕ) (f g : ℕ → ℕ) → All k (λ i. f i ≡ g i) → sum k f ≡ sum k g
 unfolding sum

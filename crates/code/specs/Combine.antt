@@ -1,9 +1,6 @@
--- Sums of blocks of a table, each times its weight, as the code works them out: from the weights' highest bit down, x times the sum so far, plus
--- the blocks whose weight has the bit. A block is named by the place where it starts. Assumes nothing.
-use mathlib.Core.Bool.{cond}
-use mathlib.Core.List.{List, [], _∷_}
-use Prim.Native.Nat.{ℕ, _+_, _-_, _*_, _/_, _%_, _^_, _≤_, _<_}
-use lib.Dec.{eqb}
+-- Sums of blocks of a table, each times its weight. A block is named by the place where it starts. Assumes nothing.
+use mathlib.Core.List.{List}
+use Prim.Native.Nat.{ℕ, _+_, _-_, _*_, _≤_, _<_}
 use lib.ListN.{length, getD}
 use Rattle.gf256.specs.Field.{product}
 use Rattle.blocks.specs.Blocks.{byteAt}
@@ -16,16 +13,6 @@ nth xs q = getD xs (q - 1) 0
 -- byte p of the sum: start q and weight q are those of block q
 abbrev pub combined : List ℕ → List ℕ → List ℕ → ℕ → ℕ
 combined t starts weights p = sum (length starts) (λ q. product (nth weights q) (getD t (nth starts q + p) 0))
-
--- the starts of the blocks whose weight has bit h
-unfoldable pub withBit : ℕ → List ℕ → List ℕ → List ℕ
-withBit h [] weights = []
-withBit h (a ∷ starts) [] = []
-withBit h (a ∷ starts) (w ∷ weights) = cond (eqb (w / 2 ^ h % 2) 1) (a ∷ withBit h starts weights) (withBit h starts weights)
-
--- the b bytes from each start on lie within n bytes
-pub record Within (b n : ℕ) (starts : List ℕ) : Type 0 where
-  pub fits : (q : ℕ) → q < length starts → getD starts q 0 + b ≤ n
 
 -- byte p of the sum of the nodes' blocks of b bytes, each times its weight
 abbrev pub mixed : ℕ → List ℕ → List ℕ → List ℕ → ℕ → ℕ

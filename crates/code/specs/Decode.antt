@@ -48,6 +48,12 @@ size s = length (members s)
 abbrev pub lowest : NodeSet → ℕ → ℕ
 lowest s q = getD (members s) (q - 1) 0
 
+-- a set of nodes among 1 to n
+unfoldable pub setWithin : ℕ → NodeSet → Bool
+setWithin n [] = true
+setWithin zero (b ∷ s) = not b && setWithin zero s
+setWithin (suc n) (b ∷ s) = setWithin n s
+
 -- the product of t plus the point of node s l, over l = 1 to k but q
 unfoldable pub others : (ℕ → ℕ) → ℕ → ℕ → ℕ → ℕ
 others s zero q t = 1

@@ -1,6 +1,9 @@
 pub mod Code
 pub mod Decode
+pub mod View
+pub mod Determined
 pub mod Calls
 pub mod Demand2
 pub mod Combine
 pub mod Weights
+pub mod Kernel

@@ -4,9 +4,10 @@ ghost use mathlib.Core.Path.{_≡_};
 ghost use Prim.Native.Nat.{_*_};
 ghost use lib.ListN.{length};
 ghost use Rattle.code.specs.Code.{codeSizes};
+ghost use Rattle.code.specs.View.{nodeSetOf};
 ghost use Rattle.code.specs.Calls.{numberOf, encoding, someOutside, given, decoding};
 
-mod combine; // combine.rt: sums of blocks times weights
+mod kernel; // kernel.rt: sums of blocks times weights
 mod encoding; // encoding.rt: the redundant blocks
 mod recovering; // recovering.rt: blocks from those of k nodes
 mod weights; // weights.rt: with what weight a block counts in another
@@ -105,7 +106,7 @@ fn some_outside(n: usize, nodes: &[u8]) -> bool
 
 // The set of the nodes given.
 fn set_of(nodes: &[u8]) -> NodeSet
-    ensures { λ r. ⌜ r .has ≡ given (now (nodes .entry)) ⌝ }
+    ensures { λ r. ⌜ nodeSetOf r ≡ given (now (nodes .entry)) ⌝ }
 {
     let mut set = NodeSet::none();
     let mut i = 0;

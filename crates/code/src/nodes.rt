@@ -1,73 +1,108 @@
 // Sets of nodes.
-ghost use mathlib.Core.Bool.{false, _||_};
+ghost use mathlib.Core.Bool.{cond};
 ghost use mathlib.Core.Path.{_≡_};
 ghost use Prim.Native.Nat.{ℕ, _≤_};
-ghost use lib.Dec.{eqb};
 ghost use lib.ListN.{getD};
 ghost use Rattle.code.specs.Decode;
+ghost use Rattle.code.specs.View.{nodeSetOf};
 
-// Place j - 1 says whether node j is in the set.
+// Bit j - 1 says whether node j is in the set; the bits past the last node say nothing.
 pub struct NodeSet {
-    pub has: [bool; 18],
+    bits: u32,
 }
 
 impl NodeSet {
-    pub fn none() -> Self
-        ensures { λ r. ⌜ r .has ≡ Decode.setOf (λ i. false) ⌝ }
-    {
-        let has = [false; 18];
-        NodeSet { has }
-    }
+    // How many nodes a stripe has at most.
+    pub const NODES: usize = 18;
 
-    // The set and node j, if j is one of the 18.
-    pub fn with(mut self, j: usize) -> Self
-        ensures { λ r. ⌜ r .has ≡ Decode.setOf (λ i. Decode.has (self .has) i || eqb j i) ⌝ }
+    // One more than the bits of all nodes.
+    const END: u32 = 262_144;
+
+    pub fn none() -> Self
+        ensures { λ r. ⌜ nodeSetOf r ≡ Decode.noNodes ⌝ }
     {
-        if j == 0 {
-            return self;
-        }
-        if 18 < j {
-            return self;
-        }
-        self.has[j - 1] = true;
-        self
+        NodeSet { bits: 0 }
     }
 
     pub fn contains(self, j: usize) -> bool
-        ensures { λ r. ⌜ r ≡ Decode.has (self .has) j ⌝ }
+        ensures { λ r. ⌜ r ≡ Decode.has (nodeSetOf self) j ⌝ }
     {
         if j == 0 {
             return false;
         }
-        if 18 < j {
+        if NodeSet::NODES < j {
             return false;
         }
-        self.has[j - 1]
+        (self.bits >> (j - 1)) % 2 == 1
+    }
+
+    // The set and node j, if j is one of the 18.
+    pub fn with(self, j: usize) -> Self
+        ensures { λ r. ⌜ nodeSetOf r ≡ Decode.including j (nodeSetOf self) ⌝ }
+    {
+        if j == 0 {
+            return self;
+        }
+        if NodeSet::NODES < j {
+            return self;
+        }
+        let bit = 1u32 << (j - 1);
+        NodeSet {
+            bits: self.bits | bit,
+        }
+    }
+
+    pub fn without(self, j: usize) -> Self
+        ensures { λ r. ⌜ nodeSetOf r ≡ Decode.excluding j (nodeSetOf self) ⌝ }
+    {
+        if j == 0 {
+            return self;
+        }
+        if NodeSet::NODES < j {
+            return self;
+        }
+        let bit = 1u32 << (j - 1);
+        NodeSet {
+            bits: (self.bits | bit) ^ bit,
+        }
+    }
+
+    // The set with node j in it, or without it.
+    pub fn put(self, j: usize, member: bool) -> Self
+        ensures { λ r. ⌜ nodeSetOf r ≡ cond member (Decode.including j (nodeSetOf self)) (Decode.excluding j (nodeSetOf self)) ⌝ }
+    {
+        if member {
+            self.with(j)
+        } else {
+            self.without(j)
+        }
     }
 
     pub fn size(self) -> usize
-        ensures { λ r. ⌜ (r ≡ Decode.size (self .has)) × (r ≤ 18) ⌝ }
+        ensures { λ r. ⌜ (r ≡ Decode.size (nodeSetOf self)) × (r ≤ 18) ⌝ }
     {
-        let mut n = 0;
-        let mut j = 0;
-        while j < 18 {
-            if self.has[j] {
-                n += 1;
-            }
-            j += 1;
+        u32::count_ones(self.bits % NodeSet::END) as usize
+    }
+
+    // Whether every member is one of the nodes 1 to n.
+    pub fn is_within(self, n: usize) -> bool
+        ensures { λ r. ⌜ r ≡ Decode.setWithin n (nodeSetOf self) ⌝ }
+    {
+        if NodeSet::NODES <= n {
+            return true;
         }
-        n
+        (self.bits % NodeSet::END) >> n == 0
     }
 
     // The members in rising order, and 0 at each place past the last.
-    pub fn members(self) -> [u8; 18]
-        ensures { λ r. ⌜ ((q : ℕ) → getD r q 0 ≡ getD (Decode.members (self .has)) q 0) ⌝ }
+    pub fn members(self) -> [u8; NodeSet::NODES]
+        ensures { λ r. ⌜ ((q : ℕ) → getD r q 0 ≡ getD (Decode.members (nodeSetOf self)) q 0) ⌝ }
     {
-        let mut r = [0u8; 18];
+        let mut r = [0u8; NodeSet::NODES];
         let mut n = 0;
         let mut j = 0;
-        while j < 18 {
-            if self.has[j] {
+        while j < NodeSet::NODES {
+            if self.contains(j + 1) {
                 r[n] = j as u8 + 1;
                 n += 1;
             }

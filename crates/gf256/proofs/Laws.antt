@@ -14,7 +14,7 @@ use lib.Bits.{bitXor, xor-shr}
 use lib.Dec.{eqb, ltb}
 use lib.ListN.{getD}
 use borrow.Author.Tests.{ltb-true}
-use Rattle.gf256.specs.Field.{double, timesBits, product, squares, inverse, power}
+use Rattle.gf256.specs.Field.{double, timesBits, product, squares, inverse, power, InverseIsInverse}
 use Rattle.gf256.proofs.Computed.{every, below, same-below}
 use Rattle.gf256.proofs.Tables.{logarithms, logarithms-are}
 use Rattle.gf256.proofs.Xor.{bit-cases, low-bit, xor-odd, xor-half, xor-double, bit-xor, xor-bit, xor-self, xor-byte, xor-low, xors}
@@ -232,7 +232,7 @@ power-inverse m =
     let whole : 254 * m + m ≡ m * 255 + 0 = omega arith in
     rw (inverse-power m, ← power-add (254 * m) m, whole) (power-turns m 0)
 
-pub inverse-product : (a : ℕ) → 0 < a → a < 256 → product (inverse a) a ≡ 1
+pub inverse-product : InverseIsInverse
 inverse-product a p l = rw (← power-logarithm a p l) (power-inverse (logarithm a))
 
 pub inverse-cancel : (a b : ℕ) → 0 < a → a < 256 → b < 256 → product (inverse a) (product a b) ≡ b

@@ -30,6 +30,10 @@ squares (suc n) a = product a (squares n (product a a))
 unfoldable pub inverse : ℕ → ℕ
 inverse a = squares 7 (product a a)
 
+-- that it is the inverse: times its argument it is 1. Proved: inverse-product (proofs/Laws.antt)
+abbrev pub InverseIsInverse : Type 0
+InverseIsInverse = (a : ℕ) → 0 < a → a < 256 → product (inverse a) a ≡ 1
+
 -- x^n
 unfoldable pub power : ℕ → ℕ
 power zero = 1

@@ -41,7 +41,7 @@ redundant-requires c κs =
     let at-limits = c .before .before .before .before in
     let args = at-limits .before .before .before .args in
     let sizes = sizes-of (args .k) (args .n) (args .b) (sym (at-limits .in-limits .ensures) ∙ not-false _ (c .before .before .before .if1 .left)) in
-    (sizes .data-most, sizes .redundant-least, omega arith, sizes .block-most, c .before .before .if2 .left, c .before .if3 .left)
+    (omega (arith, sizes .data-least), sizes .data-most, sizes .redundant-least, sizes .redundant-most, sizes .block-most, c .before .before .if2 .left, c .before .if3 .left)
 
 returns-4 : tie.Need-returns-4
 returns-4 c =

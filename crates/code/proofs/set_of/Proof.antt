@@ -5,12 +5,13 @@ use native.Mathlib.Omega.{arith}
 use lib.ListN.{length, take}
 use borrow.Author.Needs.{needs}
 use Rattle.code.specs.Calls.{given, isIn}
+use Rattle.code.specs.View.{nodeSetOf}
 use Rattle.code.proofs.Given.{given-next, given-all}
 use Rattle.code.proofs.set_of.Statement.{statement}
 use Rattle.code.proofs.set_of.Tie as tie
 
 abbrev Inv-loop : tie.InvT-loop
-Inv-loop nodes set₀ i₀ set i = (i ≤ length nodes) × (set .has ≡ given (take i nodes))
+Inv-loop nodes set₀ i₀ set i = (i ≤ length nodes) × (nodeSetOf set ≡ given (take i nodes))
 
 abbrev μ-loop : tie.MeasureT-loop
 μ-loop nodes set₀ i₀ set i = length nodes - i

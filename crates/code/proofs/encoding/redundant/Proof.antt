@@ -1,81 +1,65 @@
--- `code::encoding::redundant` meets its contract: after j turns the first j redundant blocks are there. Assumes nothing.
-use mathlib.Core.Path.{_≡_}
-use Prim.Native.Nat.{_≤_, _-_, _+_, _*_, suc}
+-- `code::encoding::redundant` meets its contract. Assumes nothing.
+use mathlib.Core.Path.{sym, _∙_}
+use Prim.Native.Nat.{_-_, _*_}
 use native.Mathlib.Omega.{arith}
-use borrow.Author.Needs.{needs}
-use Rattle.blocks.proofs.Parts.{lent-length}
-use Rattle.blocks.proofs.Tabled.{Tabled, tabled-none, tabled-fits, tabled-turn, tabled-all}
-use Rattle.blocks.specs.Blocks.{byteAt, setPart}
+use lib.Seq.{length-take-le}
 use Rattle.code.specs.Code as Code
+use Rattle.code.proofs.Encoded.{data-held, encoded-rows, mixed-symbol}
+use Rattle.code.proofs.Weighing.{data-length, data-nodes}
+use borrow.Author.Needs.{needs}
 use Rattle.code.proofs.encoding.redundant.Statement.{statement}
 use Rattle.code.proofs.encoding.redundant.Tie as tie
 
-abbrev Inv-loop : tie.InvT-loop
-Inv-loop k n b blocks out₀ j₀ out j = (j ≤ n - k) × Tabled (n - k) b (λ j p. Code.symbol k (k + j) (λ i. byteAt b blocks i p)) j out
+slice-aggregate-mix : tie.Need-slice-aggregate-mix
+slice-aggregate-mix c =
+    let at-data = c .before .before .before in
+    sym (data-length (at-data .data-nodes .result) (at-data .data-nodes .ensures) (at-data .before .before .before .args .k) (omega arith))
 
-abbrev μ-loop : tie.MeasureT-loop
-μ-loop k n b blocks out₀ j₀ out j = n - k - j
+slice-aggregate-mix-2 : tie.Need-slice-aggregate-mix-2
+slice-aggregate-mix-2 c = sym (length-take-le _ (c .before .before .before .data-weights .result) (omega arith))
 
-loop-holds : tie.Need-loop-holds Inv-loop μ-loop
-loop-holds c = (search needs, tabled-none _ _ _ _ (c .before .before .pre .5))
+mix-requires : tie.Need-mix-requires
+mix-requires c κs =
+    let at-rows = c .before .before .before in
+    let at-data = at-rows .before in
+    let first = at-data .data-nodes .ensures in
+    let at-start = at-data .before .before .before in
+    let args = at-start .args in
+    let pre = at-start .pre in
+    let nodes = at-data .data-nodes .result in
+    let count = data-length nodes first (args .k) (omega arith) in (
+      data-nodes nodes first (args .k) (omega arith),
+      omega (arith, count),
+      omega arith,
+      pre .4,
+      pre .6,
+      length-take-le ((args .n - args .k) * 12) (at-rows .data-weights .result) (omega arith),
+      data-held (args .b) (args .blocks .now) nodes first (args .k) (omega arith) (omega arith),
+      encoded-rows (args .b) (args .blocks .now) nodes first (args .k) (omega arith) (args .n - args .k) (at-rows .data-weights .result) (at-rows .data-weights .ensures),
+    )
 
-mul-a : tie.Need-mul-a Inv-loop μ-loop
-mul-a c =
-    let at-loop = c .before in
-    let fits = tabled-fits _ _ _ _ (at-loop .loop .j) (omega arith) (at-loop .loop .inv .1) in
-    omega (arith, fits)
-
-add-e : tie.Need-add-e Inv-loop μ-loop
-add-e c =
-    let at-loop = c .before in
-    let fits = tabled-fits _ _ _ _ (at-loop .loop .j) (omega arith) (at-loop .loop .inv .1) in
-    omega (arith, fits)
-
-part-redundant-block-end : tie.Need-part-redundant-block-end Inv-loop μ-loop
-part-redundant-block-end c =
-    let at-loop = c .before in
-    let fits = tabled-fits _ _ _ _ (at-loop .loop .j) (omega arith) (at-loop .loop .inv .1) in
-    omega (arith, fits)
-
-redundant-block-requires : tie.Need-redundant-block-requires Inv-loop μ-loop
-redundant-block-requires c κs =
-    let at-loop = c .before .before in
-    let at-start = at-loop .before .before .before in
-    let j = at-loop .loop .j in
-    let fits = tabled-fits _ _ _ (at-loop .loop .out) j (omega arith) (at-loop .loop .inv .1) in
-    (lent-length (j * at-start .args .b) (at-start .args .b) (at-loop .loop .out) fits, at-start .pre .3, omega arith, at-start .pre .0, omega arith, omega arith)
-
-loop-again : tie.Need-loop-again Inv-loop μ-loop
-unfolding setPart
-loop-again c =
-    let at-block = c .before .before in
-    let at-loop = at-block .before .before .before in
-    let args = at-loop .before .before .before .args in
-    let next : args .k + at-loop .loop .j + 1 ≡ args .k + suc (at-loop .loop .j) = omega arith in
-    (omega arith, tabled-turn _ _ _ _ _ _ (omega arith) (at-loop .loop .inv .1) (rw next at (at-block .redundant-block .ensures)))
-
-returns : tie.Need-returns Inv-loop μ-loop
+returns : tie.Need-returns
 unfolding Code.redundant
-returns c = tabled-all _ _ _ _ (c .before .loop .j) (omega arith) (c .before .loop .inv .1)
+returns c =
+    let at-rows = c .before .before .before .before .before .before in
+    let at-data = at-rows .before in
+    let at-start = at-data .before .before .before in
+    let args = at-start .args in
+    c .before .before .mix .ensures
+    ∙ mixed-symbol (args .b) (args .blocks .now) (at-data .data-nodes .result) (at-data .data-nodes .ensures) (args .k) (omega arith) (args .n - args .k) (at-rows .data-weights .result) (at-rows .data-weights .ensures)
 
 pub redundant-spec : {M : Type 1} → statement M
 redundant-spec =
     tie.close
     (tie.spec
-    Inv-loop
-    μ-loop
-    loop-holds
     (λ c. search needs)
-    mul-a
-    add-e
+    (λ c κs. search needs)
+    (λ c κs. search needs)
     (λ c. search needs)
     (λ c. search needs)
-    part-redundant-block-end
+    slice-aggregate-mix
     (λ c. search needs)
-    (λ c. search needs)
-    redundant-block-requires
-    (λ c. search needs)
-    (λ c. search needs)
-    loop-again
+    slice-aggregate-mix-2
+    mix-requires
     (λ c. search needs)
     returns)

@@ -2,6 +2,7 @@
 use mathlib.Core.Path.{sym, _∙_}
 use native.Mathlib.Omega.{arith}
 use borrow.Author.Needs.{needs}
+use Rattle.code.specs.View.{nodeSetOf}
 use Rattle.code.proofs.Lowest.{lowest-count, lowest-nodes, lowest-rising, lowest-held, lowest-restored}
 use Rattle.code.proofs.recovering.recover_table.Statement.{statement}
 use Rattle.code.proofs.recovering.recover_table.Tie as tie
@@ -10,7 +11,7 @@ slice-aggregate-recover-all : tie.Need-slice-aggregate-recover-all
 slice-aggregate-recover-all c =
     let at-members = c .before in
     let at-start = at-members .before .before .before in
-    let s = at-start .args .set .has in
+    let s = nodeSetOf (at-start .args .set) in
     let r = at-members .members .result in
     let k = at-start .args .k in
     let pre = at-start .pre in
@@ -20,7 +21,7 @@ recover-all-requires : tie.Need-recover-all-requires
 recover-all-requires c κs =
     let at-members = c .before .before in
     let at-start = at-members .before .before .before in
-    let s = at-start .args .set .has in
+    let s = nodeSetOf (at-start .args .set) in
     let r = at-members .members .result in
     let k = at-start .args .k in
     let pre = at-start .pre in
@@ -31,7 +32,7 @@ returns : tie.Need-returns
 returns c =
     let at-members = c .before .before .before .before .before in
     let at-start = at-members .before .before .before in
-    let s = at-start .args .set .has in
+    let s = nodeSetOf (at-start .args .set) in
     let r = at-members .members .result in
     let k = at-start .args .k in
     let pre = at-start .pre in

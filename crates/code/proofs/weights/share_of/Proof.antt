@@ -7,7 +7,7 @@ use Rattle.code.proofs.weights.share_of.Statement.{statement}
 use Rattle.code.proofs.weights.share_of.Tie as tie
 
 sub-others : tie.Need-sub-others
-sub-others c = let at-start = c .before .before in at-start .pre .0 .from (at-start .args .q - 1) (omega arith)
+sub-others c = let at-start = c .before .before in at-start .pre .2 .from (at-start .args .q - 1) (omega arith)
 
 cast-scale : tie.Need-cast-scale
 cast-scale c = let at-node = c .before in omega (arith, at-node .shared-slice-known2 .given (at-node .before .before .args .q - 1))
@@ -17,7 +17,7 @@ scale-requires c κs =
     let at-node = c .before in
     let at-start = at-node .before .before in
     let q = at-start .args .q in
-    (at-start .pre .0 .few, at-start .pre .0 .from (q - 1) (omega arith), omega (arith, at-node .shared-slice-known2 .given (q - 1)))
+    (at-start .pre .2 .few, at-start .pre .2 .from (q - 1) (omega arith), omega (arith, at-node .shared-slice-known2 .given (q - 1)))
 
 returns : tie.Need-returns
 returns c =
