@@ -12,9 +12,8 @@ use borrow.Author.Tests.{not-true}
 use Rattle.code.specs.Decode.{NodeSet, has}
 use Rattle.code.proofs.NodeSets.{setOf-has}
 use Rattle.records.specs.declared.Sizes.{Sizes}
-use Rattle.records.specs.declared.Entry.{Entry}
 use Rattle.records.specs.declared.WriteId.{WriteId}
-use Rattle.records.specs.Entries.{sameId, isRecent, isIn, isRecentIn, isOldIn}
+use Rattle.records.specs.Entries.{Entry, sameId, isRecent, isIn, isRecentIn, isOldIn}
 use Rattle.records.specs.Node.{Node, failedNode, isNorm, isRecons, isInit}
 use Rattle.machine.specs.Stripe.{Stripe, someOf}
 use Rattle.machine.specs.Rebuild.{oldSomewhere, recentIds, f, largest, someRecons, pickedSet}
@@ -27,7 +26,7 @@ use Rattle.machine.proofs.Bytes.{Block, ops}
 use Rattle.machine.proofs.View.{columns}
 use Rattle.machine.proofs.Elements.{none-at, some-at}
 use Rattle.machine.proofs.Largest.{in-position, Place, place, the-largest}
-use Rattle.machine.proofs.Pick.{FWithin, Consistent, all-data, beside, Resumes, Candidate, anew, resumed}
+use Rattle.machine.proofs.Rebuild.Pick.{FWithin, Consistent, all-data, beside, Resumes, Candidate, anew, resumed}
 
 ---- f of a node by its entries
 module _ (nodes : List Node) (x : WriteId) where

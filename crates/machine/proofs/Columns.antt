@@ -1,14 +1,14 @@
 -- A stripe seen by columns: for each field of the records a function of the node's or the client's number. A column that a call leaves alone is the
 -- same term after it, so what is known of it needs no proof again. Blocks are abstract here. Assumes nothing.
-use mathlib.Core.Bool.{Bool, true, false, cond, _&&_, _||_}
+use mathlib.Core.Bool.{Bool, true, false}
 use mathlib.Core.List.{List}
-use mathlib.Core.Option.{Option, none, some}
+use mathlib.Core.Option.{Option}
 use Prim.Native.Nat.{ℕ}
-use lib.Dec.{eqb, leb}
+use lib.Dec.{eqb}
 use Rattle.code.specs.Decode.{NodeSet}
-use Rattle.records.specs.declared.Entry.{Entry}
 use Rattle.records.specs.declared.WriteId.{WriteId}
 use Rattle.records.specs.declared.Opmode.{Opmode}
+use Rattle.records.specs.Entries.{Entry}
 use Rattle.records.specs.Client.{Write, Rebuild}
 
 -- an lmode with its holder: there is a holder at L0 and L1 alone

@@ -7,10 +7,9 @@ use mathlib.Core.Option.{Option, some}
 use Prim.Native.Nat.{ℕ, suc, _≤_}
 use native.Mathlib.Nat.{le-trans}
 use native.Mathlib.Omega.{arith}
-use Rattle.records.specs.declared.Entry.{Entry}
 use Rattle.records.specs.declared.WriteId.{WriteId}
 use Rattle.records.specs.declared.Previous.the-variants.{Id}
-use Rattle.records.specs.Entries.{sameId, isListed, isRecentIn, isOldIn, enter}
+use Rattle.records.specs.Entries.{Entry, sameId, isListed, isRecentIn, isOldIn, enter}
 use Rattle.records.specs.Node.{isInit, isNorm, isRecons}
 use Rattle.records.specs.Client.{Write}
 use Rattle.machine.proofs.Base.{upd, upd-same, upd-other, each-place, same-or, clash, is-false, or-one, or-left, or-right}

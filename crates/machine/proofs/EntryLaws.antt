@@ -1,18 +1,16 @@
 -- What entering, discarding and marking do to the tests of a list of entries. Assumes nothing.
 use mathlib.Core.Path.{_≡_, refl, sym, ap, ap₂, subst, _∙_}
-use mathlib.Core.Logic.{_≢_, _⊎_, inl, inr}
+use mathlib.Core.Logic.{_⊎_, inl, inr}
 use mathlib.Core.Bool.{Bool, true, false, cond, _&&_, _||_, not, or-assoc}
 use mathlib.Core.List.{List, [], _∷_, _++_}
-use Prim.Native.Nat.{ℕ}
 use lib.Dec.{eqb}
 use borrow.Author.Tests.{not-true, eqb-true, eq-eqb}
-use Rattle.records.specs.declared.Entry.{Entry}
 use Rattle.records.specs.declared.Mark.{Mark}
 use Rattle.records.specs.declared.Mark.the-variants.{Recent, Old}
 use Rattle.records.specs.declared.WriteId.{WriteId}
 use Rattle.records.specs.declared.Previous.{Previous}
 use Rattle.records.specs.declared.Previous.the-variants.{Nothing, Id}
-use Rattle.records.specs.Entries.{sameId, marked, isRecent, isListed, isRecentIn, isOldIn, isIn, lastRecent, lastRecentAfter, enter, aged, newEntry, discard, markOld}
+use Rattle.records.specs.Entries.{Entry, sameId, marked, isRecent, isListed, isRecentIn, isOldIn, isIn, lastRecent, lastRecentAfter, enter, aged, discard, markOld}
 use Rattle.machine.proofs.Base.{clash, and-both, or-one, or-false, or-left, or-right, bool-cases, cond-ind}
 
 pub same-id : (a b : WriteId) → sameId a b ≡ true → a ≡ b

@@ -1,27 +1,24 @@
 -- What is shared by the calls: what follows from a node's modes, and what the records of the invariant need when others change. Assumes nothing.
 use mathlib.Core.Path.{_≡_, refl, sym, ap, ap₂, subst, _∙_}
 use mathlib.Core.Logic.{_≢_, _⊎_, inl, inr}
-use mathlib.Core.Bool.{Bool, true, false, cond, _&&_, _||_, not}
-use mathlib.Core.Option.{Option, none, some}
-use mathlib.Core.List.{List, [], _∷_}
-use Prim.Native.Nat.{ℕ, zero, suc, _+_, _≤_, _<_}
+use mathlib.Core.Bool.{Bool, true, false, _||_}
+use mathlib.Core.List.{List}
+use Prim.Native.Nat.{ℕ, suc, _≤_, _<_}
 use native.Mathlib.Nat.{le-trans}
 use native.Mathlib.Omega.{arith}
-use lib.Dec.{eqb, leb, ltb}
+use lib.Dec.{leb}
 use borrow.Author.Tests.{leb-true, leb-false, le-leb, lt-leb}
-use Rattle.records.specs.declared.Entry.{Entry}
 use Rattle.records.specs.declared.WriteId.{WriteId}
 use Rattle.records.specs.declared.Opmode.{Opmode}
 use Rattle.records.specs.declared.Opmode.the-variants.{Norm, Recons, Init}
-use Rattle.records.specs.declared.Previous.{Previous}
 use Rattle.records.specs.declared.Previous.the-variants.{Id}
-use Rattle.records.specs.Entries.{isListed, isRecentIn, isOldIn, isIn, lastRecent}
+use Rattle.records.specs.Entries.{Entry, isListed, isRecentIn, isOldIn, lastRecent}
 use Rattle.records.specs.Node.{isInit, isNorm, isRecons}
 use Rattle.records.specs.Client.{Write, Rebuild, NoRebuild, Locking, Picking, Writing, Settling, Unlocking}
-use Rattle.machine.proofs.Base.{upd, upd-same, upd-other, upd-ind, same-or, clash, is-false, bool-cases}
-use Rattle.machine.proofs.Columns.{Ops, Lock, Unl, Exp, L0, L1, isUnl, isL0, heldBy, Columns}
-use Rattle.machine.proofs.Ledger.{Ledger, Swapped, IsPos, upd2}
-use Rattle.machine.proofs.Invariant.{Ghost, Laws, code, IsNode, Spot, at, Between, IdsOk, Live, Unwritten, OnCut, Settled, Among, ListOk, NodeOk, PairOk, Own, HandOk, FinishedOk, writes, LockingOk, WritingOk, SettlingOk, UnlockingOk, PhaseOk, WriterOk, SettlerOk, RebuildOk, Inv, Good}
+use Rattle.machine.proofs.Base.{upd, upd-same, upd-other, same-or, clash, is-false}
+use Rattle.machine.proofs.Columns.{Ops, Lock, L1, isUnl, isL0, Columns}
+use Rattle.machine.proofs.Ledger.{Ledger, IsPos, upd2}
+use Rattle.machine.proofs.Invariant.{Ghost, Laws, code, IsNode, Spot, at, Between, Live, Unwritten, OnCut, Settled, Among, ListOk, NodeOk, Own, HandOk, writes, PhaseOk, RebuildOk, Inv}
 
 -- modes
 pub live-cases : (o : Opmode) → isInit o ≡ false → (isNorm o ≡ true) ⊎ (isRecons o ≡ true)

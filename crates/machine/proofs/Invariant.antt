@@ -1,27 +1,25 @@
 -- The laws of the code that demand 3 rests on, and the invariant. Assumes nothing.
 use mathlib.Core.Path.{_≡_}
-use mathlib.Core.Logic.{_≢_, _⊎_, inl, inr}
-use mathlib.Core.Bool.{Bool, true, false, cond, _&&_, _||_, not}
-use mathlib.Core.Option.{Option, none, some}
-use mathlib.Core.List.{List, [], _∷_}
-use Prim.Native.Nat.{ℕ, zero, suc, _+_, _≤_, _<_}
-use lib.Dec.{eqb, leb, ltb}
+use mathlib.Core.Logic.{_⊎_}
+use mathlib.Core.Bool.{Bool, true, false, cond}
+use mathlib.Core.Option.{Option, some}
+use mathlib.Core.List.{List}
+use Prim.Native.Nat.{ℕ, zero, suc, _≤_, _<_}
+use lib.Dec.{leb}
 use lib.ListN.{length, getD}
 use Rattle.code.specs.Decode.{NodeSet, has, size}
-use Rattle.records.specs.declared.Entry.{Entry}
 use Rattle.records.specs.declared.WriteId.{WriteId}
 use Rattle.records.specs.declared.Opmode.{Opmode}
-use Rattle.records.specs.declared.Previous.{Previous}
 use Rattle.records.specs.declared.Previous.the-variants.{Id}
 use Rattle.records.specs.declared.Lmode.{Lmode}
 use Rattle.records.specs.declared.Lmode.the-variants as Lmode
-use Rattle.records.specs.Entries.{isListed, isRecentIn, isOldIn, isIn, lastRecent}
+use Rattle.records.specs.Entries.{Entry, isListed, isRecentIn, isOldIn, isIn, lastRecent}
 use Rattle.records.specs.Node.{isInit, isNorm, isRecons}
 use Rattle.records.specs.Node as Node
 use Rattle.records.specs.Client.{Write, Rebuild, NoRebuild, Locking, Picking, Writing, Settling, Unlocking}
 use Rattle.machine.proofs.Base.{upd}
-use Rattle.machine.proofs.Columns.{Ops, Lock, L0, L1, isUnl, isL0, heldBy, Columns}
-use Rattle.machine.proofs.Ledger.{Ledger, Swapped, IsPos}
+use Rattle.machine.proofs.Columns.{Ops, Lock, L1, isUnl, isL0, heldBy, Columns}
+use Rattle.machine.proofs.Ledger.{Ledger, IsPos}
 
 pub record Ghost : Type 0 where
   -- the id of the lth swap at i, from 1

@@ -1,21 +1,22 @@
 -- What a call keeps: the invariant, and the shapes of the tables. A refusal that changes nothing keeps them, once for all calls.
--- Every call X has a lemma `X-kept`: from Good and Fits before it, Kept of `step z (X ..) s`. The files are named after the sections of the document:
--- calls at one node in KeptWriting, calls on the whole stripe in KeptRebuild. Assumes nothing.
-use mathlib.Core.Path.{_≡_, refl, sym, ap, subst, _∙_}
-use mathlib.Core.Bool.{Bool, true, false, cond, _&&_, _||_, not}
-use mathlib.Core.List.{List, [], _∷_}
-use Prim.Native.Nat.{ℕ, suc, _*_}
+-- A call X of specs/GROUP (Writing, Rebuild or Failure) has its definition `GROUP.X` there, its lemma `X-kept` in KeptGROUP (from Good and Fits before
+-- it, Kept of its step), and `X-good`, the same on columns, below GROUP/: check and drop in Writing/Check, the calls of locks alone in Rebuild/Locks, the
+-- others in files of their own names. Assumes nothing.
+use mathlib.Core.Path.{_≡_, refl, sym, subst}
+use mathlib.Core.Bool.{Bool, true, false, cond}
+use Prim.Native.Nat.{ℕ, _*_}
+use native.Mathlib.Omega.{arith}
 use lib.Dec.{eqb}
 use lib.ListN.{length}
+use borrow.Author.Tests.{ne-eqb}
 use Rattle.blocks.specs.Blocks.{Bytes}
 use Rattle.records.specs.declared.Sizes.{Sizes}
 use Rattle.records.specs.declared.Refusal.{Refusal}
-use Rattle.records.specs.declared.Refusal.the-variants.{OutOfLimits, OutOfRange, OutOfPhase, WrongMode, OldEpoch, BeforePrevious, Full, Exhausted, Locked, NotHeld, TooFew, NoInverse}
-use Rattle.records.specs.Sizes.{numberOf, sizesWithin}
-use Rattle.machine.specs.Stripe.{Stripe, Answer, Refused, number, Outcome, answered, refused, guard, Local, Whole, atNode, putNode, whole, putWhole}
-use Rattle.machine.specs.Calls.{Call, step}
-use Rattle.machine.specs.History.{Event, Kind, SwapInto, AddBy, PickBy, SettleBy, Failure, Other, kind, happened, accepted, isDone}
-use Rattle.machine.proofs.Columns.{Ops, Columns}
+use Rattle.records.specs.Refusals.{numberOf}
+use Rattle.records.proofs.Refusals.{from-one}
+use Rattle.machine.specs.Stripe.{Stripe, Answer, number, Outcome, answered, refused, guard, Local, Whole, atNode, putNode, whole, putWhole}
+use Rattle.machine.specs.Calls.{Call}
+use Rattle.machine.specs.History.{Kind, SwapInto, AddBy, PickBy, SettleBy, Failure, Other, kind, isDone}
 use Rattle.machine.proofs.Ledger as Ledger
 use Rattle.machine.proofs.Ledger.{Ledger, Entered, note}
 use Rattle.machine.proofs.Invariant.{Good}
@@ -50,19 +51,9 @@ pub record Kept (z : Sizes) (h : Ledger Block) (x : Call) (o : Outcome Stripe) :
   pub good : Good (ops z) (note (ops z) h (entry z x (o .answer)) (columns z (o .after) .block)) (columns z (o .after))
   pub fits : Fits z (o .after)
 
+-- a refusal is not accepted
 pub refusal-number : (why : Refusal) → eqb (numberOf why) 0 ≡ false
-refusal-number OutOfLimits = refl
-refusal-number OutOfRange = refl
-refusal-number OutOfPhase = refl
-refusal-number (WrongMode o l) = refl
-refusal-number (OldEpoch e) = refl
-refusal-number (BeforePrevious x) = refl
-refusal-number Full = refl
-refusal-number Exhausted = refl
-refusal-number Locked = refl
-refusal-number NotHeld = refl
-refusal-number (TooFew size) = refl
-refusal-number NoInverse = refl
+refusal-number why = ne-eqb (numberOf why) 0 (λ e. omega (arith, from-one why))
 
 module _ (z : Sizes) (h : Ledger Block) where
   -- a refusal, whatever it leaves

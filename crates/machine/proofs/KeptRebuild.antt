@@ -1,4 +1,4 @@
--- The calls of the document's section "Rebuild", and stop, keep the invariant and the shapes of the tables. Assumes nothing.
+-- The calls of specs/Rebuild keep the invariant and the shapes of the tables. Assumes nothing.
 use mathlib.Core.Path.{_≡_, refl, sym, ap, fun-ext, subst, _∙_}
 use mathlib.Core.Logic.{_⊎_, inl, inr}
 use mathlib.Core.Bool.{Bool, true, false, cond, _&&_, _||_, not}
@@ -26,11 +26,10 @@ use Rattle.records.specs.Node as Node
 use Rattle.records.specs.Client as Records
 use Rattle.records.specs.Client.{Rebuild, NoRebuild, Locking, Picking, Writing, Settling, Unlocking, hasRebuild, withRebuild, unlOrExp, rebuildWithin, clientWithin}
 use Rattle.machine.specs.Stripe.{Stripe, Answer, Accepted, Rebuilt, Refused, number, Outcome, Whole, answered, refused, guard, nodeAt, clientAt, setAt, whole, nodesFit, everyOf}
-use Rattle.machine.specs.Calls.{Call, Stop, Pick, Weaken, Tighten, Write, Settle, Unlock, Quit, step}
+use Rattle.machine.specs.Calls.{Call, step}
 use Rattle.machine.specs.Calls as Calls
 use Rattle.machine.specs.Rebuild as Rebuild
 use Rattle.machine.specs.Rebuild.{advanced, holding, outOfLimits, restored, someRecons, pickedSet, countInit, neededSize, largestEpoch}
-use Rattle.machine.specs.Writing.{stop}
 use Rattle.machine.proofs.Base.{upd, clash, or-one, or-none, cond-ind}
 use Rattle.machine.proofs.Columns.{Ops, Columns, Lock, L0, heldBy, setBlocks, setLocks, setPhases}
 use Rattle.machine.proofs.Ledger as Ledger
@@ -43,10 +42,10 @@ use Rattle.machine.proofs.Tables.{put-block, length-put, length-block, 
 use Rattle.machine.proofs.Elements.{every-at, none-at, length-from, length-restored, epoch-at-most}
 use Rattle.machine.proofs.Relocks.{LockedAs, weakened-each, expired-each, restored-each}
 use Rattle.machine.proofs.Candidates.{picked-candidate}
-use Rattle.machine.proofs.Locks.{expired, givenBack, LocksNext, relocked, lost, stopped, lost-good, stopped-good, gaveBack-good, locked-good, weakened-good, tightened-good, unlocked-good}
-use Rattle.machine.proofs.Pick.{picked, picked-good}
-use Rattle.machine.proofs.Write.{writePhase, written, written-good}
-use Rattle.machine.proofs.Settle.{settlePhase, settled, settled-good, settled-rebuilt}
+use Rattle.machine.proofs.Rebuild.Locks.{expired, givenBack, LocksNext, relocked, lost, quit-good, give-back-good, lock-good, weaken-good, tighten-good, unlock-good}
+use Rattle.machine.proofs.Rebuild.Pick.{picked, pick-good}
+use Rattle.machine.proofs.Rebuild.Write.{writePhase, written, write-good}
+use Rattle.machine.proofs.Rebuild.Settle.{settlePhase, settled, settle-good, settled-rebuilt}
 
 module _ (z : Sizes) (L : Laws (ops z)) (h : Ledger Block) (s : Stripe) (g : Good (ops z) h (columns z s)) (f : Fits z s) (c : ℕ) where
   abbrev O : Ops
@@ -75,11 +74,11 @@ module _ (z : Sizes) (L : Laws (ops z)) (h : Ledger Block) (s : Stripe) (g : Goo
 
   ---- the tests before that of the phase
   -- what they have shown, where c is in phase p
-  record In (p : Rebuild) : Type 0 where
-    phase : C .phase c ≡ p
-    low : 1 ≤ c
-    high : c ≤ z .m
-    within : rebuildWithin z p ≡ true
+  pub record In (p : Rebuild) : Type 0 where
+    pub phase : C .phase c ≡ p
+    pub low : 1 ≤ c
+    pub high : c ≤ z .m
+    pub within : rebuildWithin z p ≡ true
 
   module _ (P : Outcome Whole → Type 0) (refusal : (why : Refusal) → P (refused why w)) where
     tested : (test : Bool) (why : Refusal) (rest : Outcome Whole) → (test ≡ false → P rest) → P (guard test why w rest)
@@ -87,7 +86,7 @@ module _ (z : Sizes) (L : Laws (ops z)) (h : Ledger Block) (s : Stripe) (g : Goo
     tested true why rest k = refusal why
     tested false why rest k = k refl
 
-    begins : (test : Bool) (rest : Rebuild → Outcome Whole) → (test ≡ false → outOfLimits z w ≡ false) → ((p : Rebuild) → In p → P (rest p)) →
+    pub begins : (test : Bool) (rest : Rebuild → Outcome Whole) → (test ≡ false → outOfLimits z w ≡ false) → ((p : Rebuild) → In p → P (rest p)) →
         P (guard test OutOfLimits w (guard (not (isClient z c)) OutOfRange w (rest (C .phase c))))
     unfolding clientWithin
     begins test rest limits k =
@@ -107,18 +106,18 @@ module _ (z : Sizes) (L : Laws (ops z)) (h : Ledger Block) (s : Stripe) (g : Goo
   abbrev with : List Node → List ℕ → List ℕ → Stripe
   with nodes' blocks' spare' = record { nodes = nodes'; clients = s .clients; blocks = blocks'; spare = spare'; differences = s .differences }
 
-  record Shapes (nodes' : List Node) (blocks' spare' : List ℕ) : Type 0 where
+  pub record Shapes (nodes' : List Node) (blocks' spare' : List ℕ) : Type 0 where
     nodes : length nodes' ≡ z .n
     blocks : length blocks' ≡ z .n * z .b
     spare : length spare' ≡ z .n * z .b
     blocks-bytes : Bytes blocks'
     spare-bytes : Bytes spare'
 
-  other-nodes : {nodes' : List Node} → length nodes' ≡ z .n → Shapes nodes' (s .blocks) (s .spare)
+  pub other-nodes : {nodes' : List Node} → length nodes' ≡ z .n → Shapes nodes' (s .blocks) (s .spare)
   other-nodes e = record { nodes = e; blocks = f .blocks; spare = f .spare; blocks-bytes = f .blocks-bytes; spare-bytes = f .spare-bytes }
 
   -- other locks
-  relock-columns : (nodes' : List Node) (lock' : ℕ → Lock) → ((j : ℕ) → LockedAs (at j) (lock' j) (nodeAt nodes' j)) →
+  pub relock-columns : (nodes' : List Node) (lock' : ℕ → Lock) → ((j : ℕ) → LockedAs (at j) (lock' j) (nodeAt nodes' j)) →
       columns z (withNodes s nodes') ≡ setLocks lock' C
   relock-columns nodes' lock' each =
       λ i. record {
@@ -141,7 +140,7 @@ module _ (z : Sizes) (L : Laws (ops z)) (h : Ledger Block) (s : Stripe) (g : Goo
     GoodAfter C' = Good O (note O h (entry z x a) (C' .block)) C'
 
     -- c's record becomes y
-    put-kept : (nodes' : List Node) (blocks' spare' : List ℕ) (y : Records.Client) → Shapes nodes' blocks' spare' → (C' : Columns Block) →
+    pub put-kept : (nodes' : List Node) (blocks' spare' : List ℕ) (y : Records.Client) → Shapes nodes' blocks' spare' → (C' : Columns Block) →
         withClient (columns z (with nodes' blocks' spare')) c y ≡ C' → GoodAfter C' →
         After x (answered a (record { nodes = nodes'; client = y; blocks = blocks'; spare = spare' }))
     put-kept nodes' blocks' spare' y t C' same good =
@@ -197,7 +196,7 @@ module _ (z : Sizes) (L : Laws (ops z)) (h : Ledger Block) (s : Stripe) (g : Goo
     -- "10: a rebuild call after Lock meets a needed node not held by c: all held by c become EXP; rebuild ends"
     needing : (x : Call) (held : Bool) (rest : Outcome Whole) → (held ≡ true → After x rest) → After x (holding held c w rest)
     unfolding holding
-    needing x held rest k = cond-ind (After x) held rest _ k (λ e. lost-kept i x (Refused NotHeld) (lost-good O h C g c))
+    needing x held rest k = cond-ind (After x) held rest _ k (λ e. lost-kept i x (Refused NotHeld) (quit-good O h C g c))
 
     held-at : (j : ℕ) → Node.heldBy c (at j) ≡ true → heldBy c (C .lock j) ≡ true
     held-at j e = sym (held-is c (at j) (i .low)) ∙ e
@@ -207,15 +206,15 @@ module _ (z : Sizes) (L : Laws (ops z)) (h : Ledger Block) (s : Stripe) (g : Goo
 
   ---- Lock
   next-lock : {p : Rebuild} → In p → (old : List Lmode) → LocksNext (C .phase c) old → unlOrExp old ≡ true → length old < z .n →
-      After (Calls.Lock c) (Rebuild.lockNode z c old w)
+      After (Calls.lock c) (Rebuild.lockNode z c old w)
   unfolding Rebuild.lockNode
   next-lock i old next fit more =
       rw (add-one (length old))
-      (cond-ind (After (Calls.Lock c)) (Node.isL0 (x .lmode) || Node.isL1 (x .lmode)) _ _
-      (λ e. relock-kept i (Calls.Lock c) (Refused Locked) (restored c old N) (λ j. givenBack c old j (C .lock j)) NoRebuild (length-restored c old N ∙ f .nodes)
-      (restored-each N c (i .low) old fit) (gaveBack-good O h C g c old next))
-      (λ e. lock-set-kept i (Calls.Lock c) Accepted j Lmode.L1 (Client c) (cond (leb (z .n) j) (Picking 0) (Locking (old ++ (x .lmode ∷ []))))
-      (record { low = omega arith; high = more }) (locked-good O h C g c old next (x .lmode) (exp-is x) (sym (locked-is x) ∙ e))))
+      (cond-ind (After (Calls.lock c)) (Node.isL0 (x .lmode) || Node.isL1 (x .lmode)) _ _
+      (λ e. relock-kept i (Calls.lock c) (Refused Locked) (restored c old N) (λ j. givenBack c old j (C .lock j)) NoRebuild (length-restored c old N ∙ f .nodes)
+      (restored-each N c (i .low) old fit) (give-back-good O h C g c old next))
+      (λ e. lock-set-kept i (Calls.lock c) Accepted j Lmode.L1 (Client c) (cond (leb (z .n) j) (Picking 0) (Locking (old ++ (x .lmode ∷ []))))
+      (record { low = omega arith; high = more }) (lock-good O h C g c old next (x .lmode) (exp-is x) (sym (locked-is x) ∙ e))))
     where
       j : ℕ
       j = suc (length old)
@@ -223,14 +222,14 @@ module _ (z : Sizes) (L : Laws (ops z)) (h : Ledger Block) (s : Stripe) (g : Goo
       x : Node
       x = at j
 
-  pub lock-kept : Kept z h (Calls.Lock c) (step z (Calls.Lock c) s)
+  pub lock-kept : Kept z h (Calls.lock c) (step z (Calls.lock c) s)
   unfolding step Rebuild.lock Rebuild.lockIn unlOrExp
-  lock-kept = begins (After (Calls.Lock c)) (refuses (Calls.Lock c)) (outOfLimits z w) (λ p. Rebuild.lockIn z c p w) (λ e. e) go
+  lock-kept = begins (After (Calls.lock c)) (refuses (Calls.lock c)) (outOfLimits z w) (λ p. Rebuild.lockIn z c p w) (λ e. e) go
     where
-      out : After (Calls.Lock c) (refused OutOfPhase w)
-      out = refuses (Calls.Lock c) OutOfPhase
+      out : After (Calls.lock c) (refused OutOfPhase w)
+      out = refuses (Calls.lock c) OutOfPhase
 
-      go : (p : Rebuild) → In p → After (Calls.Lock c) (Rebuild.lockIn z c p w)
+      go : (p : Rebuild) → In p → After (Calls.lock c) (Rebuild.lockIn z c p w)
       go NoRebuild i = next-lock i [] (inr (i .phase, refl)) refl (omega (arith, L .k-n))
       go (Locking old) i = let fit = i .within in next-lock i old (inl (i .phase)) (search (and-left, and-right)) (search (and-left, and-right, ltb-true))
       go (Picking t) i = out
@@ -250,9 +249,9 @@ module _ (z : Sizes) (L : Laws (ops z)) (h : Ledger Block) (s : Stripe) (g : Goo
       let needed = ltb-false (size chosen) (neededSize z N) e in
       let least = cond-ind (λ m. z .k ≤ m) (someRecons N) (z .k) (z .k + (z .failures - countInit N)) (λ t. omega arith) (λ t. omega arith) in omega arith
 
-  picks : In (Picking 0) → everyOf (Node.heldAtL1 c) N ≡ true → z .k ≤ size chosen → After (Pick c) (answered Accepted (Rebuild.picked z chosen (top .0) w))
+  picks : In (Picking 0) → everyOf (Node.heldAtL1 c) N ≡ true → z .k ≤ size chosen → After (Calls.pick c) (answered Accepted (Rebuild.picked z chosen (top .0) w))
   picks i held many =
-      phase-kept i (Pick c) Accepted N (s .blocks) (recoveredTable (z .k) (z .n) (z .b) chosen (s .blocks)) (Writing 1 chosen top)
+      phase-kept i (Calls.pick c) Accepted N (s .blocks) (recoveredTable (z .k) (z .n) (z .b) chosen (s .blocks)) (Writing 1 chosen top)
       (record {
         nodes = f .nodes;
         blocks = f .blocks;
@@ -261,23 +260,23 @@ module _ (z : Sizes) (L : Laws (ops z)) (h : Ledger Block) (s : Stripe) (g : Goo
         spare-bytes = bytes-rebuilt z chosen (s .blocks);
       })
       (picked O c chosen top C) (rw (rebuilt-blocks z chosen (s .blocks) many))
-      (picked-good O L h C g c chosen top (picked-candidate z s (f .nodes) (L .n-18)) many
+      (pick-good O L h C g c chosen top (picked-candidate z s (f .nodes) (L .n-18)) many
       (λ j b. l1-is c (at j) (every-at failedNode (Node.heldAtL1 c) N held j (b .low) (rw (f .nodes) (b .high)))) (λ j b. epoch-at-most N j))
 
-  pub pick-kept : Kept z h (Pick c) (step z (Pick c) s)
+  pub pick-kept : Kept z h (Calls.pick c) (step z (Calls.pick c) s)
   unfolding step Rebuild.pick Rebuild.pickIn Rebuild.pickNow
-  pick-kept = begins (After (Pick c)) (refuses (Pick c)) _ (λ p. Rebuild.pickIn z c p w) (λ e. or-none (outOfLimits z w) _ e .0) go
+  pick-kept = begins (After (Calls.pick c)) (refuses (Calls.pick c)) _ (λ p. Rebuild.pickIn z c p w) (λ e. or-none (outOfLimits z w) _ e .0) go
     where
-      out : After (Pick c) (refused OutOfPhase w)
-      out = refuses (Pick c) OutOfPhase
+      out : After (Calls.pick c) (refused OutOfPhase w)
+      out = refuses (Calls.pick c) OutOfPhase
 
-      more : (test : Bool) (why : Refusal) (rest : Outcome Whole) → (test ≡ false → After (Pick c) rest) → After (Pick c) (guard test why w rest)
-      more = tested (After (Pick c)) (refuses (Pick c))
+      more : (test : Bool) (why : Refusal) (rest : Outcome Whole) → (test ≡ false → After (Calls.pick c) rest) → After (Calls.pick c) (guard test why w rest)
+      more = tested (After (Calls.pick c)) (refuses (Calls.pick c))
 
-      go : (p : Rebuild) → In p → After (Pick c) (Rebuild.pickIn z c p w)
+      go : (p : Rebuild) → In p → After (Calls.pick c) (Rebuild.pickIn z c p w)
       go NoRebuild i = out
       go (Locking old) i = out
-      go (Picking zero) i = more _ _ _ (λ r8. needing i (Pick c) _ _ (λ held. more _ _ _ (λ r11. more _ _ _ (λ r12. picks i held (enough r11)))))
+      go (Picking zero) i = more _ _ _ (λ r8. needing i (Calls.pick c) _ _ (λ held. more _ _ _ (λ r11. more _ _ _ (λ r12. picks i held (enough r11)))))
       go (Picking (suc t)) i = out
       go (Writing j u e) i = out
       go (Settling j e) i = out
@@ -285,54 +284,54 @@ module _ (z : Sizes) (L : Laws (ops z)) (h : Ledger Block) (s : Stripe) (g : Goo
 
   ---- Weaken, Tighten
   weakens : In (Picking 0) → someRecons N ≡ false → everyOf (Node.heldBy c) N ≡ true →
-      After (Weaken c) (answered Accepted (advanced (Rebuild.weakened z c N) (Picking (z .k + 1)) w))
+      After (Calls.weaken c) (answered Accepted (advanced (Rebuild.weakened z c N) (Picking (z .k + 1)) w))
   weakens i none held =
       rw (add-one (z .k))
-      (relock-kept i (Weaken c) Accepted (Rebuild.weakened z c N) (λ j. cond (ltb (z .k) j && leb j (z .n)) (L0 c) (C .lock j)) (Picking (suc (z .k)))
+      (relock-kept i (Calls.weaken c) Accepted (Rebuild.weakened z c N) (λ j. cond (ltb (z .k) j && leb j (z .n)) (L0 c) (C .lock j)) (Picking (suc (z .k)))
       (length-from failedNode (weakenedBy c) (z .k) N ∙ f .nodes) (weakened-each N c z (f .nodes))
-      (weakened-good O h C g c (i .phase) (all-held i held) (none-at failedNode (λ x. Node.isRecons (x .opmode)) refl N none)))
+      (weaken-good O h C g c (i .phase) (all-held i held) (none-at failedNode (λ x. Node.isRecons (x .opmode)) refl N none)))
 
-  pub weaken-kept : Kept z h (Weaken c) (step z (Weaken c) s)
+  pub weaken-kept : Kept z h (Calls.weaken c) (step z (Calls.weaken c) s)
   unfolding step Rebuild.weaken Rebuild.weakenIn
-  weaken-kept = begins (After (Weaken c)) (refuses (Weaken c)) (outOfLimits z w) (λ p. Rebuild.weakenIn z c p w) (λ e. e) go
+  weaken-kept = begins (After (Calls.weaken c)) (refuses (Calls.weaken c)) (outOfLimits z w) (λ p. Rebuild.weakenIn z c p w) (λ e. e) go
     where
-      out : After (Weaken c) (refused OutOfPhase w)
-      out = refuses (Weaken c) OutOfPhase
+      out : After (Calls.weaken c) (refused OutOfPhase w)
+      out = refuses (Calls.weaken c) OutOfPhase
 
-      go : (p : Rebuild) → In p → After (Weaken c) (Rebuild.weakenIn z c p w)
+      go : (p : Rebuild) → In p → After (Calls.weaken c) (Rebuild.weakenIn z c p w)
       go NoRebuild i = out
       go (Locking old) i = out
-      go (Picking zero) i = tested (After (Weaken c)) (refuses (Weaken c)) _ _ _ (λ none. needing i (Weaken c) _ _ (weakens i none))
+      go (Picking zero) i = tested (After (Calls.weaken c)) (refuses (Calls.weaken c)) _ _ _ (λ none. needing i (Calls.weaken c) _ _ (weakens i none))
       go (Picking (suc t)) i = out
       go (Writing j u e) i = out
       go (Settling j e) i = out
       go (Unlocking j) i = out
 
   tightens : (t : ℕ) → In (Picking (suc t)) → Node.heldBy c (at (suc t)) ≡ true →
-      After (Tighten c) (answered Accepted
+      After (Calls.tighten c) (answered Accepted
       (advanced (setAt N (suc t) (lockedBy c (at (suc t)))) (cond (leb (z .n) (suc t)) (Picking 0) (Picking (suc t + 1))) w))
   tightens t i held =
       rw (add-one (suc t))
-      (lock-set-kept i (Tighten c) Accepted (suc t) Lmode.L1 (Client c) (cond (leb (z .n) (suc t)) (Picking 0) (Picking (suc (suc t))))
+      (lock-set-kept i (Calls.tighten c) Accepted (suc t) Lmode.L1 (Client c) (cond (leb (z .n) (suc t)) (Picking 0) (Picking (suc (suc t))))
       (record { low = omega arith; high = high (or-one (eqb (suc t) 0) (ltb (z .k) (suc t) && leb (suc t) (z .n)) (i .within)) })
-      (tightened-good O h C g c t (i .phase) (held-at i (suc t) held)))
+      (tighten-good O h C g c t (i .phase) (held-at i (suc t) held)))
     where
       high : (eqb (suc t) 0 ≡ true) ⊎ ((ltb (z .k) (suc t) && leb (suc t) (z .n)) ≡ true) → suc t ≤ z .n
       high (inl e) = let zero-is = eqb-true (suc t) 0 e in absurd (omega arith)
       high (inr e) = search (and-right, leb-true)
 
-  pub tighten-kept : Kept z h (Tighten c) (step z (Tighten c) s)
+  pub tighten-kept : Kept z h (Calls.tighten c) (step z (Calls.tighten c) s)
   unfolding step Rebuild.tighten Rebuild.tightenIn
-  tighten-kept = begins (After (Tighten c)) (refuses (Tighten c)) (outOfLimits z w) (λ p. Rebuild.tightenIn z c p w) (λ e. e) go
+  tighten-kept = begins (After (Calls.tighten c)) (refuses (Calls.tighten c)) (outOfLimits z w) (λ p. Rebuild.tightenIn z c p w) (λ e. e) go
     where
-      out : After (Tighten c) (refused OutOfPhase w)
-      out = refuses (Tighten c) OutOfPhase
+      out : After (Calls.tighten c) (refused OutOfPhase w)
+      out = refuses (Calls.tighten c) OutOfPhase
 
-      go : (p : Rebuild) → In p → After (Tighten c) (Rebuild.tightenIn z c p w)
+      go : (p : Rebuild) → In p → After (Calls.tighten c) (Rebuild.tightenIn z c p w)
       go NoRebuild i = out
       go (Locking old) i = out
       go (Picking zero) i = out
-      go (Picking (suc t)) i = needing i (Tighten c) _ _ (tightens t i)
+      go (Picking (suc t)) i = needing i (Calls.tighten c) _ _ (tightens t i)
       go (Writing j u e) i = out
       go (Settling j e) i = out
       go (Unlocking j) i = out
@@ -349,12 +348,12 @@ module _ (z : Sizes) (L : Laws (ops z)) (h : Ledger Block) (s : Stripe) (g : Goo
     size-v : length v ≡ z .b
     size-v = length-block (z .b) (z .n) j (s .spare) (writing-node .low) (writing-node .high) (f .spare)
 
-    writes : Node.heldBy c (at j) ≡ true → After (Write c) (answered Accepted (Rebuild.writtenAt z j set e w))
+    writes : Node.heldBy c (at j) ≡ true → After (Calls.write c) (answered Accepted (Rebuild.writtenAt z j set e w))
     writes held =
         let low = writing-node .low in
         let high = writing-node .high in
         rw (add-one j)
-        (set-kept i (Write c) Accepted j (Node.written e set (at j)) (setBlock (z .b) j v (s .blocks)) (writePhase O j set e) writing-node
+        (set-kept i (Calls.write c) Accepted j (Node.written e set (at j)) (setBlock (z .b) j v (s .blocks)) (writePhase O j set e) writing-node
         (length-put (z .b) (z .n) j v (s .blocks) low high (f .blocks) size-v)
         (bytes-put (z .b) j v (s .blocks) (bytes-block (z .b) j (s .spare) (f .spare-bytes)) (f .blocks-bytes))
         (written O c j set e C)
@@ -364,56 +363,56 @@ module _ (z : Sizes) (L : Laws (ops z)) (h : Ledger Block) (s : Stripe) (g : Goo
           put-block (z .b) (z .n) j v (s .blocks) low high (f .blocks) size-v,
           ← block-view (z .b) (s .spare) j low,
         ))
-        (written-good O L h C g c j set e (i .phase) (held-at i j held)))
+        (write-good O L h C g c j set e (i .phase) (held-at i j held)))
 
-  pub write-kept : Kept z h (Write c) (step z (Write c) s)
+  pub write-kept : Kept z h (Calls.write c) (step z (Calls.write c) s)
   unfolding step Rebuild.write Rebuild.writeIn
-  write-kept = begins (After (Write c)) (refuses (Write c)) _ (λ p. Rebuild.writeIn z c p w) (λ e. or-none (outOfLimits z w) _ e .0) go
+  write-kept = begins (After (Calls.write c)) (refuses (Calls.write c)) _ (λ p. Rebuild.writeIn z c p w) (λ e. or-none (outOfLimits z w) _ e .0) go
     where
-      out : After (Write c) (refused OutOfPhase w)
-      out = refuses (Write c) OutOfPhase
+      out : After (Calls.write c) (refused OutOfPhase w)
+      out = refuses (Calls.write c) OutOfPhase
 
-      go : (p : Rebuild) → In p → After (Write c) (Rebuild.writeIn z c p w)
+      go : (p : Rebuild) → In p → After (Calls.write c) (Rebuild.writeIn z c p w)
       go NoRebuild i = out
       go (Locking old) i = out
       go (Picking t) i = out
-      go (Writing j set e) i = needing i (Write c) _ _ (writes j set e i)
+      go (Writing j set e) i = needing i (Calls.write c) _ _ (writes j set e i)
       go (Settling j e) i = out
       go (Unlocking j) i = out
 
   ---- Settle
   -- either answer says that it is accepted
-  settle-entry : (last : Bool) → entry z (Settle c) (cond last Rebuilt Accepted) ≡ Ledger.Settle c
+  settle-entry : (last : Bool) → entry z (Calls.settle c) (cond last Rebuilt Accepted) ≡ Ledger.Settle c
   settle-entry true = refl
   settle-entry false = refl
 
   settles : (j : ℕ) (e : Epoch) → In (Settling j e) → everyOf (Node.heldBy c) N ≡ true →
-      After (Settle c) (answered (cond (leb (z .n) j) Rebuilt Accepted)
+      After (Calls.settle c) (answered (cond (leb (z .n) j) Rebuilt Accepted)
       (advanced (setAt N j (Node.settled e (at j))) (cond (leb (z .n) j) (Unlocking 1) (Settling (j + 1) e)) w))
   settles j e i held =
       let fit = i .within in
       rw (add-one j)
-      (set-kept i (Settle c) (cond (leb (z .n) j) Rebuilt Accepted) j (Node.settled e (at j)) (s .blocks) (settlePhase O j e) (node j (search (and-left)))
+      (set-kept i (Calls.settle c) (cond (leb (z .n) j) Rebuilt Accepted) j (Node.settled e (at j)) (s .blocks) (settlePhase O j e) (node j (search (and-left)))
       (f .blocks) (f .blocks-bytes) (settled O c j e C) (rw (upd-keep (C .lock) j, add-one (e .0)))
-      (rw (settle-entry (leb (z .n) j)) (settled-good O L h C g c j e (i .phase) (all-held i held))))
+      (rw (settle-entry (leb (z .n) j)) (settle-good O L h C g c j e (i .phase) (all-held i held))))
 
-  pub settle-kept : Kept z h (Settle c) (step z (Settle c) s)
+  pub settle-kept : Kept z h (Calls.settle c) (step z (Calls.settle c) s)
   unfolding step Rebuild.settle Rebuild.settleIn
-  settle-kept = begins (After (Settle c)) (refuses (Settle c)) (outOfLimits z w) (λ p. Rebuild.settleIn z c p w) (λ e. e) go
+  settle-kept = begins (After (Calls.settle c)) (refuses (Calls.settle c)) (outOfLimits z w) (λ p. Rebuild.settleIn z c p w) (λ e. e) go
     where
-      out : After (Settle c) (refused OutOfPhase w)
-      out = refuses (Settle c) OutOfPhase
+      out : After (Calls.settle c) (refused OutOfPhase w)
+      out = refuses (Calls.settle c) OutOfPhase
 
-      go : (p : Rebuild) → In p → After (Settle c) (Rebuild.settleIn z c p w)
+      go : (p : Rebuild) → In p → After (Calls.settle c) (Rebuild.settleIn z c p w)
       go NoRebuild i = out
       go (Locking old) i = out
       go (Picking t) i = out
       go (Writing j u e) i = out
-      go (Settling j e) i = needing i (Settle c) _ _ (settles j e i)
+      go (Settling j e) i = needing i (Calls.settle c) _ _ (settles j e i)
       go (Unlocking j) i = out
 
   -- after an accepted settle the n blocks are one codeword, of first parts
-  pub settle-rebuilt : eqb (number (step z (Settle c) s .answer)) 0 ≡ true → Ledger.Rebuilt O h (blockOf (z .b) (step z (Settle c) s .after .blocks))
+  pub settle-rebuilt : eqb (number (step z (Calls.settle c) s .answer)) 0 ≡ true → Ledger.Rebuilt O h (blockOf (z .b) (step z (Calls.settle c) s .after .blocks))
   unfolding step Rebuild.settle Rebuild.settleIn holding
   settle-rebuilt = begins P out (outOfLimits z w) (λ p. Rebuild.settleIn z c p w) (λ e. e) go
     where
@@ -434,45 +433,32 @@ module _ (z : Sizes) (L : Laws (ops z)) (h : Ledger Block) (s : Stripe) (g : Goo
 
   ---- Unlock
   unlocks : (j : ℕ) → In (Unlocking j) → Node.heldBy c (at j) ≡ true →
-      After (Unlock c) (answered Accepted (advanced (setAt N j (Node.unlocked (at j))) (cond (leb (z .n) j) NoRebuild (Unlocking (j + 1))) w))
+      After (Calls.unlock c) (answered Accepted (advanced (setAt N j (Node.unlocked (at j))) (cond (leb (z .n) j) NoRebuild (Unlocking (j + 1))) w))
   unlocks j i held =
       let b = node j (i .within) in
       rw (add-one j)
-      (lock-set-kept i (Unlock c) Accepted j Lmode.Unl Nobody (cond (leb (z .n) j) NoRebuild (Unlocking (suc j))) b
-      (unlocked-good O h C g c j (i .phase) b (held-at i j held)))
+      (lock-set-kept i (Calls.unlock c) Accepted j Lmode.Unl Nobody (cond (leb (z .n) j) NoRebuild (Unlocking (suc j))) b
+      (unlock-good O h C g c j (i .phase) b (held-at i j held)))
 
-  pub unlock-kept : Kept z h (Unlock c) (step z (Unlock c) s)
+  pub unlock-kept : Kept z h (Calls.unlock c) (step z (Calls.unlock c) s)
   unfolding step Rebuild.unlock Rebuild.unlockIn
-  unlock-kept = begins (After (Unlock c)) (refuses (Unlock c)) (outOfLimits z w) (λ p. Rebuild.unlockIn z c p w) (λ e. e) go
+  unlock-kept = begins (After (Calls.unlock c)) (refuses (Calls.unlock c)) (outOfLimits z w) (λ p. Rebuild.unlockIn z c p w) (λ e. e) go
     where
-      out : After (Unlock c) (refused OutOfPhase w)
-      out = refuses (Unlock c) OutOfPhase
+      out : After (Calls.unlock c) (refused OutOfPhase w)
+      out = refuses (Calls.unlock c) OutOfPhase
 
-      go : (p : Rebuild) → In p → After (Unlock c) (Rebuild.unlockIn z c p w)
+      go : (p : Rebuild) → In p → After (Calls.unlock c) (Rebuild.unlockIn z c p w)
       go NoRebuild i = out
       go (Locking old) i = out
       go (Picking t) i = out
       go (Writing j u e) i = out
       go (Settling j e) i = out
-      go (Unlocking j) i = needing i (Unlock c) _ _ (unlocks j i)
+      go (Unlocking j) i = needing i (Calls.unlock c) _ _ (unlocks j i)
 
-  ---- Quit, Stop
-  pub quit-kept : Kept z h (Quit c) (step z (Quit c) s)
+  ---- Quit
+  pub quit-kept : Kept z h (Calls.quit c) (step z (Calls.quit c) s)
   unfolding step Rebuild.quit
   quit-kept =
-      begins (After (Quit c)) (refuses (Quit c)) (outOfLimits z w)
+      begins (After (Calls.quit c)) (refuses (Calls.quit c)) (outOfLimits z w)
       (λ p. guard (not (hasRebuild p)) OutOfPhase w (answered Accepted (Rebuild.lost c w))) (λ e. e)
-      (λ p i. tested (After (Quit c)) (refuses (Quit c)) _ _ _ (λ r3. lost-kept i (Quit c) Accepted (lost-good O h C g c)))
-
-  pub stop-kept : Kept z h (Stop c) (step z (Stop c) s)
-  unfolding step stop
-  stop-kept =
-      begins (After (Stop c)) (refuses (Stop c)) (outOfLimits z w)
-      (λ p. answered Accepted (record { nodes = nodes'; client = Records.stopped client; blocks = s .blocks; spare = s .spare })) (λ e. e)
-      (λ p i. put-kept i (Stop c) Accepted nodes' (s .blocks) (s .spare) (Records.stopped client) (other-nodes (length-map N (expiredFor c) ∙ f .nodes))
-      (stopped c C)
-      (ap (λ D. withClient D c (Records.stopped client)) (relock-columns nodes' (λ j. expired c (C .lock j)) (expired-each N c (i .low)))
-      ∙ rw (upd-keep (C .next) c)) (stopped-good O h C g c))
-    where
-      nodes' : List Node
-      nodes' = map (expiredFor c) N
+      (λ p i. tested (After (Calls.quit c)) (refuses (Calls.quit c)) _ _ _ (λ r3. lost-kept i (Calls.quit c) Accepted (quit-good O h C g c)))

@@ -1,4 +1,4 @@
--- The calls of the document's section "Writing" keep the invariant and the shapes of the tables. Assumes nothing.
+-- The calls of specs/Writing keep the invariant and the shapes of the tables. Assumes nothing.
 use mathlib.Core.Path.{_≡_, refl, sym, ap, subst, _∙_}
 use mathlib.Core.Bool.{Bool, true, false, _&&_, _||_, not}
 use mathlib.Core.List.{List}
@@ -13,17 +13,17 @@ use Rattle.blocks.specs.Blocks.{block, setBlock, difference, addTimes, Bytes}
 use Rattle.code.specs.Code.{coefficient}
 use Rattle.code.specs.Decode.{has, including}
 use Rattle.records.specs.declared.Sizes.{Sizes}
-use Rattle.records.specs.declared.Entry.{Entry}
 use Rattle.records.specs.declared.Refusal.{Refusal}
 use Rattle.records.specs.declared.Previous.{Previous}
 use Rattle.records.specs.declared.Previous.the-variants.{Nothing, Id}
-use Rattle.records.specs.Entries.{enter, isListed, isRecentIn, previousRecent}
+use Rattle.records.specs.Entries.{Entry, enter, isListed, isRecentIn, previousRecent}
 use Rattle.records.specs.Sizes.{sizesWithin, isClient, isPosition, isNode, isRedundant}
 use Rattle.records.specs.Node.{Node, withEntries, failedNode, nodeWithin}
 use Rattle.records.specs.Node as Node
-use Rattle.records.specs.Client.{Client, Write, began, finishedWrite, withHand, sweptOn, freshClient, clientWithin}
+use Rattle.records.specs.Client.{Client, Write, began, finishedWrite, withHand, sweptOn, clientWithin}
 use Rattle.machine.specs.Stripe.{Stripe, Answer, Accepted, CheckInit, CheckGc, NoChange, Outcome, answered, guard, Local, nodeAt, clientAt, setAt, atNode, putNode, blocksFit, differencesFit}
-use Rattle.machine.specs.Calls.{Call, Read, Swap, Add, Check, Drop, Sweep, Fail, step}
+use Rattle.machine.specs.Calls.{Call, step}
+use Rattle.machine.specs.Calls as Calls
 use Rattle.machine.specs.Writing as Writing
 use Rattle.machine.proofs.Base.{upd, and-both, cond-ind}
 use Rattle.machine.proofs.Columns.{Columns, setBlocks, setEntries, setHands, setFinished, setNexts, setDifferences}
@@ -35,22 +35,21 @@ use Rattle.machine.proofs.View.{columns, withClient, withNodes, withCli
 use Rattle.machine.proofs.Tables.{put-block, length-put, bytes-put, bytes-block, length-block, bytes-difference, length-difference, view-difference, bytes-add, length-add, view-add, block-view}
 use Rattle.machine.proofs.Kept.{Fits, Kept, entry, KeptAt, at-refused, at-guard}
 use Rattle.machine.proofs.Sets.{each-at}
-use Rattle.machine.proofs.Add.{previousListed, MayAdd, addedTo, add-more-good, add-done-good}
-use Rattle.machine.proofs.Hands.{drop-good, check-init-good, check-gc-good}
-use Rattle.machine.proofs.Sweep.{relisted, discard-good, mark-good, empty-finished-good}
-use Rattle.machine.proofs.Fail.{failed, fail-good}
-use Rattle.machine.proofs.Swap.{newId, newWrite, swapped, swap-good}
+use Rattle.machine.proofs.Writing.Add.{previousListed, MayAdd, addedTo, add-more-good, add-done-good}
+use Rattle.machine.proofs.Writing.Check.{drop-good, check-init-good, check-gc-good}
+use Rattle.machine.proofs.Writing.Sweep.{relisted, discard-good, mark-good, empty-finished-good}
+use Rattle.machine.proofs.Writing.Swap.{newId, newWrite, swapped, swap-good}
 
 -- i is one of 1 to n
-abbrev Within : ℕ → ℕ → Type 0
+abbrev pub Within : ℕ → ℕ → Type 0
 Within n i = (1 ≤ i) × (i ≤ n)
 
-within : {n i : ℕ} → (leb 1 i && leb i n) ≡ true → Within n i
+pub within : {n i : ℕ} → (leb 1 i && leb i n) ≡ true → Within n i
 within {n} {i} e = let (l, r) = and-both (leb 1 i) (leb i n) e in (leb-true 1 i l, leb-true i n r)
 
 ---- tables
 -- t is m bytes
-record Sized (m : ℕ) (t : List ℕ) : Type 0 where
+pub record Sized (m : ℕ) (t : List ℕ) : Type 0 where
   pub many : length t ≡ m
   pub bytes : Bytes t
 
@@ -58,10 +57,10 @@ module _ (b n i : ℕ) (t : List ℕ) (T : Sized (n * b) t) (r : Within n i) whe
   block-sized : Sized b (block b i t)
   block-sized = record { many = length-block b n i t (r .0) (r .1) (T .many); bytes = bytes-block b i t (T .bytes) }
 
-  put-sized : (v : List ℕ) → Sized b v → Sized (n * b) (setBlock b i v t)
+  pub put-sized : (v : List ℕ) → Sized b v → Sized (n * b) (setBlock b i v t)
   put-sized v Y = record { many = length-put b n i v t (r .0) (r .1) (T .many) (Y .many); bytes = bytes-put b i v t (Y .bytes) (T .bytes) }
 
-  put-seen : (v : List ℕ) → Sized b v → blockOf b (setBlock b i v t) ≡ upd (blockOf b t) i (view b v)
+  pub put-seen : (v : List ℕ) → Sized b v → blockOf b (setBlock b i v t) ≡ upd (blockOf b t) i (view b v)
   put-seen v Y = put-block b n i v t (r .0) (r .1) (T .many) (Y .many)
 
 module _ (z : Sizes) (L : Laws (ops z)) (h : Ledger Block) (s : Stripe) (g : Good (ops z) h (columns z s)) (f : Fits z s) where
@@ -96,15 +95,15 @@ module _ (z : Sizes) (L : Laws (ops z)) (h : Ledger Block) (s : Stripe) (g : Goo
   kept-same : (x : Call) (j c : ℕ) (a : Answer) → Quiet x a → After x j c (answered a (atNode j c s))
   kept-same x j c a quiet = subst (λ t. Kept z h x (answered a t)) (sym (put-back j c s)) (record { good = rw (quiet (C .block)) g; fits = f })
 
-  pub read-kept : (i : ℕ) → Kept z h (Read i) (step z (Read i) s)
+  pub read-kept : (i : ℕ) → Kept z h (Calls.read i) (step z (Calls.read i) s)
   unfolding step Writing.read
   read-kept i = tested x i 0 _ _ _ (λ r1. tested x i 0 _ _ _ (λ r2. tested x i 0 _ _ _ (λ r4. kept-same x i 0 _ (λ b. refl))))
     where
       x : Call
-      x = Read i
+      x = Calls.read i
 
   ---- what an accepted call leaves
-  put-fits : (j c : ℕ) (l : Local) → Sized (z .n * z .b) (l .blocks) → Sized (z .m * z .b) (l .differences) → Fits z (putNode j c l s)
+  pub put-fits : (j c : ℕ) (l : Local) → Sized (z .n * z .b) (l .blocks) → Sized (z .m * z .b) (l .differences) → Fits z (putNode j c l s)
   put-fits j c l B D =
       record {
         nodes = setAt-length (s .nodes) j (l .node) ∙ f .nodes;
@@ -140,7 +139,7 @@ module _ (z : Sizes) (L : Laws (ops z)) (h : Ledger Block) (s : Stripe) (g : Goo
   ---- swap
   module _ (c i : ℕ) (value : List ℕ) (bytes : Bytes value) where
     abbrev swap : Call
-    swap = Swap c i value
+    swap = Calls.swap c i value
 
     swap-accepted : Within (z .m) c → Within (z .k) i → length value ≡ z .b → Node.isFree (nodeOf i) ≡ true →
         After swap i c (answered Accepted (Writing.swapped z c i value (atNode i c s)))
@@ -193,7 +192,7 @@ module _ (z : Sizes) (L : Laws (ops z)) (h : Ledger Block) (s : Stripe) (g : Goo
   ---- add
   module _ (c j : ℕ) where
     abbrev add : Call
-    add = Add c j
+    add = Calls.add c j
 
     module _ (client : Within (z .m) c) (w : Write) (may : MayAdd (ops z) C c j w) where
       node : Within (z .n) j
@@ -311,18 +310,18 @@ module _ (z : Sizes) (L : Laws (ops z)) (h : Ledger Block) (s : Stripe) (g : Goo
   kept-hand x j c a t client quiet good =
       record { good = rw (quiet (C .block), put-hand j c t client) good; fits = put-fits j c _ blocks-sized differences-sized }
 
-  pub drop-kept : (c : ℕ) → Kept z h (Drop c) (step z (Drop c) s)
+  pub drop-kept : (c : ℕ) → Kept z h (Calls.drop c) (step z (Calls.drop c) s)
   unfolding step Writing.drop
   drop-kept c =
       tested x 0 c _ _ _ (λ r1. tested x 0 c _ _ _ (λ r2. tested x 0 c _ _ _ (λ r3.
       kept-hand x 0 c Accepted none (within (not-false _ r2)) (λ b. refl) (drop-good (ops z) h C c g))))
     where
       x : Call
-      x = Drop c
+      x = Calls.drop c
 
   module _ (c j : ℕ) where
     abbrev check : Call
-    check = Check c j
+    check = Calls.check c j
 
     check-written : Within (z .m) c → (t : Option Write) → C .hand c ≡ t → After check j c (Writing.checkWrite j t (atNode j c s))
     unfolding Writing.checkWrite
@@ -347,7 +346,7 @@ module _ (z : Sizes) (L : Laws (ops z)) (h : Ledger Block) (s : Stripe) (g : Goo
   ---- sweep
   module _ (c : ℕ) where
     abbrev sweep : Call
-    sweep = Sweep c
+    sweep = Calls.sweep c
 
     abbrev j : ℕ
     j = Writing.sweepNode z (clientOf c)
@@ -385,37 +384,3 @@ module _ (z : Sizes) (L : Laws (ops z)) (h : Ledger Block) (s : Stripe) (g : Goo
         cond-ind (λ es. Swept es (sweptOn (z .n) (clientOf c))) (ltb (clientOf c .round) (z .n)) _ _
         (λ e. sweep-end (within (not-false _ r2)) (not-false _ r4) _ (discard-good (ops z) h C j (clientOf c .moved) g))
         (λ e. sweep-end (within (not-false _ r2)) (not-false _ r4) _ (mark-good (ops z) h C c j g))))))
-
-  ---- fail
-  module _ (j : ℕ) (value : List ℕ) (bytes : Bytes value) where
-    abbrev fail : Call
-    fail = Fail j value
-
-    abbrev fallen : Local
-    fallen = record { node = failedNode; client = clientOf 0; blocks = setBlock (z .b) j value (s .blocks); differences = s .differences }
-
-    fail-accepted : Within (z .n) j → length value ≡ z .b → After fail j 0 (answered Accepted fallen)
-    fail-accepted node len =
-        record {
-          good = rw seen (fail-good (ops z) L h C j (view (z .b) value) g);
-          fits = put-fits j 0 fallen (put-sized (z .b) (z .n) j (s .blocks) blocks-sized node value value-sized) differences-sized;
-        }
-      where
-        value-sized : Sized (z .b) value
-        value-sized = record { many = len; bytes = bytes }
-
-        tables : Stripe
-        tables = withTables (fallen .blocks) (s .differences)
-
-        seen : columns z (putNode j 0 fallen s) ≡ failed (ops z) C j (view (z .b) value)
-        seen =
-            ap (λ l. columns z (withClients (withNodes tables (setAt (s .nodes) j failedNode)) l)) (set-same (λ (y : Client). y) freshClient (s .clients) 0)
-            ∙ put-node z tables j failedNode (node .0) (rw (f .nodes) (node .1))
-            ∙ rw (put-seen (z .b) (z .n) j (s .blocks) blocks-sized node value value-sized)
-
-    pub fail-kept : Kept z h fail (step z fail s)
-    unfolding step Writing.fail
-    fail-kept =
-        tested fail j 0 _ _ _ (λ r1. tested fail j 0 _ _ _ (λ r2.
-        let many = and-both (blocksFit z (s .blocks)) _ (and-both (sizesWithin z) _ (not-false _ r1) .1) .1 in
-        fail-accepted (within (not-false _ r2)) (eqb-true _ _ many)))

@@ -1,4 +1,4 @@
--- Document 01, "Pick c": `largest` is the set that the document takes (`the-largest`), and there is no other such set (`the-only`).
+-- The two statements of specs/Consistent: `the-largest` and `the-only`.
 -- Every consistent set is within a candidate, `allData` or `besides r`, which is consistent too; `largest` is the first of the largest candidates.
 -- Assumes nothing.
 use mathlib.Core.Path.{_≡_, refl, sym, ap, ap₂, subst, _∙_}
@@ -20,7 +20,7 @@ use Rattle.records.specs.Entries.{sameId, isIn}
 use Rattle.records.specs.Node.{Node, failedNode, isNorm}
 use Rattle.machine.specs.Stripe.{elementAt, nodeAt, everyOf}
 use Rattle.machine.specs.Rebuild.{f, atPosition, sameIds, fits, allData, besides, largest}
-use Rattle.machine.specs.Consistent.{SameSet, Redundant, Consistent, AllData, Lowest, Tie, TheLargest}
+use Rattle.machine.specs.Consistent.{SameSet, Redundant, Consistent, AllData, Lowest, Tie, TheLargest, PicksTheLargest, OneLargest}
 use Rattle.machine.proofs.Base.{bool-cases, clash, and-both, or-one, or-left, or-right, cond-ind}
 use Rattle.machine.proofs.EntryLaws.{same-id, same-id-refl}
 
@@ -378,8 +378,8 @@ module _ (z : Sizes) (nodes : List Node) where
         low (data-only a) L l = none-redundant z set a (L .holds)
         low {p} (beside R) L l = omega (arith, L .least p R)
 
-    pub the-largest : TheLargest z nodes (largest z nodes (z .n - z .k))
-    the-largest = best-largest (largest z nodes (z .n - z .k)) (best (z .n - z .k))
+    largest-taken : TheLargest z nodes (largest z nodes (z .n - z .k))
+    largest-taken = best-largest (largest z nodes (z .n - z .k)) (best (z .n - z .k))
 
     -- a set that the document takes is the candidate for its kind
     fills : (set : NodeSet) → TheLargest z nodes set → {r : ℕ} (K : Kind set r) (j : ℕ) → has set j ≡ has (candidate K) j
@@ -387,8 +387,8 @@ module _ (z : Sizes) (nodes : List Node) where
         let within = within-candidate (T .consistent) K in
         same-tests (has set j) (has (candidate K) j) (within j) (size-full set (candidate K) within (T .largest (candidate K) (candidate-consistent K)) j)
 
-    pub the-only : (s t : NodeSet) → TheLargest z nodes s → TheLargest z nodes t → (j : ℕ) → has s j ≡ has t j
-    the-only s t S T = by (place z s) (place z t)
+    one-taken : (s t : NodeSet) → TheLargest z nodes s → TheLargest z nodes t → (j : ℕ) → has s j ≡ has t j
+    one-taken s t S T = by (place z s) (place z t)
       where
         s-tie : Tie z nodes t s
         s-tie = record { consistent = S .consistent; sizes = omega (arith, S .largest t (T .consistent), T .largest s (S .consistent)) }
@@ -404,3 +404,9 @@ module _ (z : Sizes) (nodes : List Node) where
             let e : L .0 ≡ M .0 =
             omega (arith, S .lowestFirst t t-tie (L .0) (M .0) (L .1) (M .1), T .lowestFirst s s-tie (M .0) (L .0) (M .1) (L .1)) in
             fills s S (beside (L .1 .holds)) j ∙ ap (λ r. has (besides z nodes r) j) e ∙ sym (fills t T (beside (M .1 .holds)) j)
+
+pub the-largest : PicksTheLargest
+the-largest = largest-taken
+
+pub the-only : OneLargest
+the-only = one-taken

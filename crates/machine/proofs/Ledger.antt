@@ -3,7 +3,7 @@
 use mathlib.Core.Bool.{Bool, true, false, cond}
 use mathlib.Core.Option.{Option, none, some}
 use mathlib.Core.Path.{_≡_}
-use Prim.Native.Nat.{ℕ, zero, suc, _≤_, _<_}
+use Prim.Native.Nat.{ℕ, suc, _≤_, _<_}
 use lib.Dec.{eqb}
 use Rattle.machine.proofs.Base.{upd}
 use Rattle.machine.proofs.Columns.{Ops}
@@ -103,10 +103,14 @@ module _ (O : Ops) where
   abbrev pub IsCodeword : (ℕ → B) → Type 0
   IsCodeword b = (j : ℕ) → k < j → j ≤ n → b j ≡ parity j b
 
+  -- x is the value of a first part of the swaps at i, in which all that are done are
+  abbrev pub IsPart : Ledger B → ℕ → B → Type 0
+  IsPart h i x = (l : ℕ) × ((l ≤ h .len i) × (x ≡ h .val i l) × ((d : ℕ) → h .done i d ≡ true → d ≤ l))
+
   -- after a finished rebuild; h is what was before it
   pub record Rebuilt (h : Ledger B) (b : ℕ → B) : Type 0 where
     pub codeword : IsCodeword b
-    pub part : (i : ℕ) → IsPos i → (l : ℕ) × ((l ≤ h .len i) × (b i ≡ h .val i l) × ((d : ℕ) → h .done i d ≡ true → d ≤ l))
+    pub part : (i : ℕ) → IsPos i → IsPart h i (b i)
     pub reported : h .stale ≡ false
 
   abbrev pub AllDone : Ledger B → Type 0

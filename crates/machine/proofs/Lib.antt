@@ -1,37 +1,39 @@
+-- tests, lists of entries, sets of nodes
 pub mod Base
 pub mod EntryLaws
+pub mod Sets
+-- the invariant, on a stripe as columns, with the history as a ledger
 pub mod Columns
 pub mod Ledger
 pub mod Invariant
 pub mod Frame
-pub mod Sets
 pub mod Progress
 pub mod Entering
-pub mod Swap
-pub mod Add
-pub mod Hands
-pub mod Sweep
-pub mod Fail
 pub mod Phases
-pub mod Locks
-pub mod Pick
-pub mod Write
-pub mod Settle
+pub mod Writing
+pub mod Rebuild
+pub mod Failure
 pub mod Start
+-- records and tables seen as columns
 pub mod Bytes
 pub mod View
-pub mod Kept
 pub mod Tables
 pub mod CodeLaws
-pub mod KeptStart
-pub mod KeptWriting
 pub mod Elements
+pub mod Relocks
+-- the set that a pick takes
 pub mod Largest
 pub mod Candidates
-pub mod Relocks
+-- the machine's calls keep the invariant
+pub mod Kept
+pub mod KeptStart
+pub mod KeptWriting
 pub mod KeptRebuild
+pub mod KeptFailure
+pub mod Refusals
+-- lists of calls
 pub mod Told
-pub mod Limits
-pub mod Starred
+pub mod Rooted
 pub mod Theorem
+pub mod Starred
 pub mod Witness

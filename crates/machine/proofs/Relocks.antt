@@ -22,7 +22,7 @@ use Rattle.machine.proofs.Columns.{Lock, Unl, Exp, L0, heldBy}
 use Rattle.machine.proofs.Invariant.{wasExp}
 use Rattle.machine.proofs.View.{lockOf, lockIn, held-is}
 use Rattle.machine.proofs.Elements.{map-at, from-at, restored-first, restored-rest, unl-or-exp}
-use Rattle.machine.proofs.Locks.{expired, givenBack}
+use Rattle.machine.proofs.Rebuild.Locks.{expired, givenBack}
 
 -- y is x with the lock l
 pub record LockedAs (x : Node) (l : Lock) (y : Node) : Type 0 where

@@ -9,7 +9,7 @@ use native.Mathlib.Nat.{mul-le-mul-right}
 use native.Mathlib.Omega.{arith}
 use lib.Bits.{bitXor}
 use lib.Dec.{ltb}
-use lib.ListN.{length, getD, take, drop, replicate, length-take, List·getD-eq-default}
+use lib.ListN.{length, getD, take, drop, replicate, length-take, List·getD-eq-default, length-replicate}
 use lib.Seq.{ext-getD, getD-take, getD-drop}
 use borrow.Author.Tests.{ltb-true, ltb-false, lt-ltb, le-ltb, le-leb, lt-leb}
 use Rattle.gf256.specs.Field.{product}
@@ -186,6 +186,13 @@ zero-blocks b m = fun-ext by
 
 pub length-block : (b n i : ℕ) (t : List ℕ) → 1 ≤ i → i ≤ n → length t ≡ n * b → length (block b i t) ≡ b
 length-block b n i t i1 in-n lt = part-length ((i - 1) * b) b t (rw lt (block-fits i n b i1 in-n))
+
+pub zero-block : (b n i : ℕ) → 1 ≤ i → i ≤ n → block b i (zeroes (n * b)) ≡ zeroes b
+unfolding byteAt
+zero-block b n i i1 in-n =
+    let long = length-block b n i (zeroes (n * b)) i1 in-n (length-replicate (n * b) 0) in
+    ext-getD 0 (block b i (zeroes (n * b))) (zeroes b) (long ∙ sym (length-replicate b 0))
+    (λ p l. block-at b i (zeroes (n * b)) p (rw long at l) ∙ zeroes-at (n * b) ((i - 1) * b + p) ∙ sym (zeroes-at b p))
 
 -- block i becomes v
 module _ (b n i : ℕ) (v t : List ℕ) (i1 : 1 ≤ i) (in-n : i ≤ n) (lt : length t ≡ n * b) (lv : length v ≡ b) where

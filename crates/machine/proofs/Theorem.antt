@@ -1,55 +1,69 @@
 -- Demand 3, proved: what specs/Guarantee states, of every list of calls. Assumes nothing.
-use mathlib.Core.Path.{_≡_, refl, sym, ap, subst, _∙_}
+use mathlib.Core.Path.{_≡_, refl, ap, subst}
 use mathlib.Core.Logic.{_⊎_, inl, inr}
-use mathlib.Core.Bool.{Bool, true, false, cond, _&&_, not}
+use mathlib.Core.Bool.{Bool, true, false, _&&_}
 use mathlib.Core.List.{List, [], _∷_}
-use Prim.Native.Nat.{ℕ, _*_}
+use Prim.Native.Nat.{ℕ, _*_, _≤_}
 use native.Mathlib.Omega.{arith}
 use lib.Dec.{eqb}
 use lib.ListN.{length}
 use borrow.Author.Tests.{eqb-true, not-false}
-use Rattle.blocks.specs.Blocks.{Bytes}
+use Rattle.blocks.specs.Blocks.{block, Bytes}
 use Rattle.records.specs.declared.Sizes.{Sizes}
+use Rattle.records.specs.declared.NodeCall.{NodeCall}
+use Rattle.records.specs.declared.NodeCall.the-variants.{Add, Check}
+use Rattle.records.specs.declared.ClientCall.{ClientCall}
+use Rattle.records.specs.declared.ClientCall.the-variants.{Drop, Sweep, Stop, Lock, Weaken, Tighten, Write, Settle, Unlock, Quit}
 use Rattle.records.specs.declared.Refusal.the-variants.{OutOfLimits}
 use Rattle.records.specs.Sizes.{sizesWithin}
 use Rattle.records.specs.Node.{nodeWithin}
 use Rattle.records.specs.Client.{clientWithin}
-use Rattle.machine.specs.Stripe.{Stripe, Answer, number, Outcome, Local, guard, atNode, blocksFit, differencesFit}
+use Rattle.machine.specs.Stripe.{Stripe, number, Outcome, Local, guard, atNode, blocksFit, differencesFit}
 use Rattle.machine.specs.Writing as Writing
-use Rattle.machine.specs.Calls.{Call, Read, Swap, Add, Check, Drop, Sweep, Stop, Fail, Lock, Pick, Weaken, Tighten, Write, Settle, Unlock, Quit, step}
-use Rattle.machine.specs.History.{Event, Kind, SwapInto, AddBy, PickBy, SettleBy, Failure, Other, kind, happened, accepted, finishes}
-use Rattle.machine.specs.Guarantee.{Request, Run, Allowed, AllAllowed, made, play, start, valueOf, RebuiltWell, Holds, Demand3}
+use Rattle.machine.specs.Calls.{Call, Read, Pick, Swap, Fail, At, By, step}
+use Rattle.machine.specs.Calls as Calls
+use Rattle.machine.specs.History.{Event, Kind, SwapInto, AddBy, PickBy, SettleBy, Failure, Other, kind, happened, accepted, nodesAt, sizesAt, finishes}
+use Rattle.machine.specs.Guarantee.{Request, Run, Allowed, AllAllowed, made, play, start, valueOf, RebuiltWell, Holds, EveryList, Demand3, PartOfAll, KeepsDone}
 use Rattle.machine.proofs.Base.{clash, and-both, bool-cases, cond-ind}
-use Rattle.machine.proofs.Ledger.{Ledger, Rebuilt, isLast, note, noLedger}
+use Rattle.machine.proofs.Ledger.{Ledger, Rebuilt, note, noLedger}
 use Rattle.machine.proofs.Invariant.{Laws, Good}
 use Rattle.machine.proofs.Bytes.{Block, blockOf, ops}
 use Rattle.machine.proofs.View.{columns}
 use Rattle.machine.proofs.Kept.{Fits, Kept, entry}
-use Rattle.machine.proofs.KeptWriting.{read-kept, swap-kept, add-kept, check-kept, drop-kept, sweep-kept, fail-kept}
-use Rattle.machine.proofs.KeptRebuild.{lock-kept, pick-kept, weaken-kept, tighten-kept, write-kept, settle-kept, settle-rebuilt, unlock-kept, quit-kept, stop-kept}
+use Rattle.machine.proofs.KeptWriting.{read-kept, swap-kept, add-kept, check-kept, drop-kept, sweep-kept}
+use Rattle.machine.proofs.KeptRebuild.{lock-kept, pick-kept, weaken-kept, tighten-kept, write-kept, settle-kept, settle-rebuilt, unlock-kept, quit-kept}
+use Rattle.machine.proofs.KeptFailure.{stop-kept, fail-kept}
 use Rattle.machine.proofs.KeptStart.{fresh-good, fresh-fits}
-use Rattle.machine.proofs.Limits.{limits-same}
+use Rattle.machine.proofs.Refusals.{limits-same}
 use Rattle.machine.proofs.Start.{steady}
-use Rattle.machine.proofs.Told.{Told, told-start, told-more, Finishes, finish-is, rebuilt-well, last-values}
+use Rattle.machine.proofs.Told.{Told, SwapsBlocks, told-start, told-more, Finishes, finish-is, rebuilt-well, last-values}
+use Rattle.machine.proofs.Rooted.{Rooted, rooted-start, rooted-more, part-of-all}
 use Rattle.machine.proofs.CodeLaws.{code-laws}
 
 -- the event of a call and its outcome
 abbrev eventOf : Call → Outcome Stripe → Event
 eventOf x o = record { call = x; answer = o .answer; blocks = o .after .blocks }
 
--- what is known of the outcome of a call, whatever sizes it was handed
+-- what is known of the outcome of a call where the sizes are z, whatever sizes it was handed
 record Known-call (z : Sizes) (h : Ledger Block) (x : Call) (o : Outcome Stripe) : Type 0 where
   kept : Kept z h x o
-  swapped : (c i : ℕ) (v : List ℕ) → happened (eventOf x o) ≡ SwapInto c i v → (length v ≡ z .b) × Bytes v
+  swapped : SwapsBlocks z (eventOf x o)
   rebuilt : Finishes z h (eventOf x o) → Rebuilt (ops z) h (blockOf (z .b) (o .after .blocks))
 
--- what is known at a point of a list
+-- how the stripe stands, where the sizes are z
+record Standing (z : Sizes) (h : Ledger Block) (s : Stripe) : Type 0 where
+  within : sizesWithin z ≡ true
+  good : Good (ops z) h (columns z s)
+  fits : Fits z s
+
+-- what is known at a point of a list that began with the sizes z
 record Known (z : Sizes) (run : Run) : Type 0 where
   ledger : Ledger Block
-  good : Good (ops z) ledger (columns z (run .stripe))
-  fits : Fits z (run .stripe)
+  stands : Standing (sizesAt z (run .past)) ledger (run .stripe)
   told : Told z ledger (run .past)
+  rooted : (i : ℕ) → 1 ≤ i → i ≤ z .k → Rooted z i (run .past)
   holds : Holds z run
+  keeps-done : KeepsDone z run
 
 abbrev isSwap : Kind → Bool
 isSwap (SwapInto c i v) = true
@@ -91,42 +105,6 @@ module _ (z : Sizes) (within : sizesWithin z ≡ true) where
       let rest = and-both records (tables && own) (and-both (sizesWithin z) (records && (tables && own)) all .1) .1 in
       eqb-true (length value) (z .b) (and-both tables own rest .1)
 
-  -- the clauses of Holds, from what is known of the last call
-  module _ (h : Ledger Block) (past : List Event) (T : Told z h past) (x : Call) (o : Outcome Stripe) (N : Known-call z h x o) where
-    abbrev e : Event
-    e = eventOf x o
-
-    abbrev after : Ledger Block
-    after = note (ops z) h (entry z x (o .answer)) (blockOf (z .b) (o .after .blocks))
-
-    f : Fits z (o .after)
-    f = N .kept .fits
-
-    told-after : Told z after (e ∷ past)
-    told-after = told-more z h e past T (f .blocks) (f .blocks-bytes) (N .swapped)
-
-    known-run : Known z (record { stripe = o .after; past = e ∷ past })
-    known-run =
-        record {
-          ledger = after;
-          good = N .kept .good;
-          fits = f;
-          told = told-after;
-          holds = record {
-            rebuilt = λ d later is ends. rebuilt d later is ends;
-            steady = last-values z within after (e ∷ past) told-after (o .after .blocks) (f .blocks) (f .blocks-bytes) (N .kept .good .inv .ids .no-stale)
-                (steady (ops z) L after (columns z (o .after)) (N .kept .good));
-          };
-        }
-      where
-        rebuilt : (d : Event) (later : List Event) → e ∷ past ≡ d ∷ later → finishes (z .n) d later ≡ true → RebuiltWell z later (o .after .blocks)
-        rebuilt d later is ends =
-            let same : past ≡ later = cc in
-            let own : d ≡ e = cc in
-            let own-ends : finishes (z .n) e past ≡ true = rw (← own, same) ends in
-            subst (λ p. RebuiltWell z p (o .after .blocks)) same
-            (rebuilt-well z within h past T (o .after .blocks) (f .blocks) (f .blocks-bytes) (N .rebuilt (finish-is z h e past T own-ends)))
-
   ---- a call answered 1 leaves the stripe, and is nothing to the ledger
   module _ (h : Ledger Block) (s : Stripe) (g : Good (ops z) h (columns z s)) (fit : Fits z s) (x : Call) where
     known-limits : (o : Outcome Stripe) → o .after ≡ s → number (o .answer) ≡ 1 → Known-call z h x o
@@ -142,13 +120,17 @@ module _ (z : Sizes) (within : sizesWithin z ≡ true) where
         other q = let t : _≡_ {A = ℕ} 0 1 = cc in absurd (omega arith)
 
     ---- a call with the list's sizes
-    -- a call that is no swap and no settle
+    -- a call that is no swap
+    unswapped : isSwap (kind x) ≡ false → SwapsBlocks z (eventOf x (step z x s))
+    unswapped no-swap c i v is =
+        clash (ap isSwap is) (cond-ind (λ K. isSwap K ≡ false) (accepted (eventOf x (step z x s))) (kind x) Other (λ t. no-swap) (λ t. refl))
+
+    -- nor a settle
     plain : isSwap (kind x) ≡ false → isSettle (kind x) ≡ false → Kept z h x (step z x s) → Known-call z h x (step z x s)
     plain no-swap no-settle k =
         record {
           kept = k;
-          swapped = λ c i v is.
-              clash (ap isSwap is) (cond-ind (λ K. isSwap K ≡ false) (accepted (eventOf x (step z x s))) (kind x) Other (λ t. no-swap) (λ t. refl));
+          swapped = unswapped no-swap;
           rebuilt = λ F. clash (ap isSettle (F .settle)) no-settle;
         }
 
@@ -177,63 +159,134 @@ module _ (z : Sizes) (within : sizesWithin z ≡ true) where
       quiet : (x : Call) → isSwap (kind x) ≡ false → isSettle (kind x) ≡ false → Kept z h x (step z x s) → Known-call z h x (step z x s)
       quiet = plain h s g fit
 
-      by : (x : Call) → Bytes (valueOf x) → Known-call z h x (step z x s)
-      by (Read i) bytes = quiet (Read i) refl refl (read-kept z L h s g fit i)
-      by (Swap c i value) bytes = known-swap h s g fit c i value bytes
-      by (Add c j) bytes = quiet (Add c j) refl refl (add-kept z L h s g fit c j)
-      by (Check c j) bytes = quiet (Check c j) refl refl (check-kept z L h s g fit c j)
-      by (Drop c) bytes = quiet (Drop c) refl refl (drop-kept z L h s g fit c)
-      by (Sweep c) bytes = quiet (Sweep c) refl refl (sweep-kept z L h s g fit c)
-      by (Stop c) bytes = quiet (Stop c) refl refl (stop-kept z L h s g fit c)
-      by (Fail j value) bytes = quiet (Fail j value) refl refl (fail-kept z L h s g fit j value bytes)
-      by (Lock c) bytes = quiet (Lock c) refl refl (lock-kept z L h s g fit c)
-      by (Pick c) bytes = quiet (Pick c) refl refl (pick-kept z L h s g fit c)
-      by (Weaken c) bytes = quiet (Weaken c) refl refl (weaken-kept z L h s g fit c)
-      by (Tighten c) bytes = quiet (Tighten c) refl refl (tighten-kept z L h s g fit c)
-      by (Write c) bytes = quiet (Write c) refl refl (write-kept z L h s g fit c)
-      by (Settle c) bytes =
+      at-node : (op : NodeCall) (c j : ℕ) → Known-call z h (At op c j) (step z (At op c j) s)
+      at-node Add c j = quiet (Calls.add c j) refl refl (add-kept z L h s g fit c j)
+      at-node Check c j = quiet (Calls.check c j) refl refl (check-kept z L h s g fit c j)
+
+      by-client : (op : ClientCall) (c : ℕ) → Known-call z h (By op c) (step z (By op c) s)
+      by-client Drop c = quiet (Calls.drop c) refl refl (drop-kept z L h s g fit c)
+      by-client Sweep c = quiet (Calls.sweep c) refl refl (sweep-kept z L h s g fit c)
+      by-client Stop c = quiet (Calls.stop c) refl refl (stop-kept z L h s g fit c)
+      by-client Lock c = quiet (Calls.lock c) refl refl (lock-kept z L h s g fit c)
+      by-client Weaken c = quiet (Calls.weaken c) refl refl (weaken-kept z L h s g fit c)
+      by-client Tighten c = quiet (Calls.tighten c) refl refl (tighten-kept z L h s g fit c)
+      by-client Write c = quiet (Calls.write c) refl refl (write-kept z L h s g fit c)
+      by-client Settle c =
           record {
             kept = settle-kept z L h s g fit c;
-            swapped = λ d l v is.
-                clash (ap isSwap is)
-                (cond-ind (λ K. isSwap K ≡ false) (accepted (eventOf (Settle c) (step z (Settle c) s))) (SettleBy c) Other (λ t. refl) (λ t. refl));
+            swapped = unswapped h s g fit (Calls.settle c) refl;
             rebuilt = λ F. settle-rebuilt z L h s g fit c (F .is-accepted);
           }
-      by (Unlock c) bytes = quiet (Unlock c) refl refl (unlock-kept z L h s g fit c)
-      by (Quit c) bytes = quiet (Quit c) refl refl (quit-kept z L h s g fit c)
+      by-client Unlock c = quiet (Calls.unlock c) refl refl (unlock-kept z L h s g fit c)
+      by-client Quit c = quiet (Calls.quit c) refl refl (quit-kept z L h s g fit c)
 
+      by : (call : Call) → Bytes (valueOf call) → Known-call z h call (step z call s)
+      by (Read i) bytes = quiet (Calls.read i) refl refl (read-kept z L h s g fit i)
+      by (Pick c) bytes = quiet (Calls.pick c) refl refl (pick-kept z L h s g fit c)
+      by (Swap c i value) bytes = known-swap h s g fit c i value bytes
+      by (Fail j value) bytes = quiet (Calls.fail j value) refl refl (fail-kept z L h s g fit j value bytes)
+      by (At op c j) bytes = at-node op c j
+      by (By op c) bytes = by-client op c
+
+---- one call more
+module _ (z : Sizes) (h : Ledger Block) (past : List Event) (T : Told z h past) (R : (i : ℕ) → 1 ≤ i → i ≤ z .k → Rooted z i past)
+    (x : Call) (o : Outcome Stripe) where
+  abbrev e : Event
+  e = eventOf x o
+
+  abbrev after : Ledger Block
+  after = note (ops (sizesAt z past)) h (entry z x (o .answer)) (blockOf (z .b) (o .after .blocks))
+
+  -- whatever sizes it leaves: from how the stripe stands then, and what the call is if it is a swap or the end of a rebuild
+  module _ (S : Standing (sizesAt z (e ∷ past)) after (o .after)) (swapped : SwapsBlocks z e)
+      (rebuilt : finishes z e past ≡ true → RebuiltWell z past (o .after .blocks)) where
+    abbrev now : Sizes
+    now = sizesAt z (e ∷ past)
+
+    told-after : Told z after (e ∷ past)
+    told-after =
+        let L = code-laws now (S .within) in
+        told-more z h e past T (now .n) (omega (arith, L .k-n)) (S .fits .blocks) (S .fits .blocks-bytes) swapped
+
+    known-run : Known z (record { stripe = o .after; past = e ∷ past })
+    known-run =
+        record {
+          ledger = after;
+          stands = S;
+          told = told-after;
+          rooted = λ i i1 ik. rooted-more z i e past (R i i1 ik) (λ ends. rebuilt ends .position i i1 ik);
+          holds = record {
+            rebuilt = λ d later is ends.
+                let same : past ≡ later = cc in
+                let own : d ≡ e = cc in
+                subst (λ p. RebuiltWell z p (o .after .blocks)) same (rebuilt (rw (← own, same) ends));
+            steady = last-values z after (e ∷ past) told-after (S .within) (o .after .blocks) (S .fits .blocks) (S .fits .blocks-bytes)
+                (S .good .inv .ids .no-stale) (steady (ops now) (code-laws now (S .within)) after (columns z (o .after)) (S .good));
+          };
+          keeps-done = λ d later is ends i i1 ik.
+              let same : past ≡ later = cc in
+              let own : d ≡ e = cc in
+              subst (λ p. PartOfAll z i p (block (z .b) i (o .after .blocks))) same
+              (part-of-all z i past (o .after .blocks) (R i i1 ik) (rebuilt (rw (← own, same) ends) .position i i1 ik));
+        }
+
+  -- no call changes the sizes
+  nodes-on : nodesAt (z .n) (e ∷ past) ≡ nodesAt (z .n) past
+  unfolding nodesAt
+  nodes-on = refl
+
+  known-next : sizesWithin (sizesAt z past) ≡ true → Known-call (sizesAt z past) h x o → Known z (record { stripe = o .after; past = e ∷ past })
+  known-next within N = known-run (rw nodes-on (record { within = within; good = N .kept .good; fits = f })) (N .swapped) rebuilt
+    where
+      f : Fits (sizesAt z past) (o .after)
+      f = N .kept .fits
+
+      rebuilt : finishes z e past ≡ true → RebuiltWell z past (o .after .blocks)
+      rebuilt ends = rebuilt-well z h past T within (o .after .blocks) (f .blocks) (f .blocks-bytes) (N .rebuilt (finish-is z h e past T ends))
+
+module _ (z : Sizes) where
   ---- the whole list
   known-made : (r : Request) (run : Run) → Allowed z r run → Known z run → Known z (made r run)
   unfolding made
   known-made r run a K = by (a .sizes)
     where
-      next : Known-call z (K .ledger) (r .call) (step (r .sizes) (r .call) (run .stripe)) → Known z (made r run)
-      next N = known-run (K .ledger) (run .past) (K .told) (r .call) (step (r .sizes) (r .call) (run .stripe)) N
+      now : Sizes
+      now = sizesAt z (run .past)
 
-      by : (r .sizes ≡ z) ⊎ (number (step (r .sizes) (r .call) (run .stripe) .answer) ≡ 1) → Known z (made r run)
-      by (inl same) = next (rw same (known-call (K .ledger) (run .stripe) (K .good) (K .fits) (r .call) (a .bytes)))
+      S : Standing now (K .ledger) (run .stripe)
+      S = K .stands
+
+      next : Known-call now (K .ledger) (r .call) (step (r .sizes) (r .call) (run .stripe)) → Known z (made r run)
+      next = known-next z (K .ledger) (run .past) (K .told) (K .rooted) (r .call) (step (r .sizes) (r .call) (run .stripe)) (S .within)
+
+      by : (r .sizes ≡ now) ⊎ (number (step (r .sizes) (r .call) (run .stripe) .answer) ≡ 1) → Known z (made r run)
+      by (inl same) = next (rw same (known-call now (S .within) (K .ledger) (run .stripe) (S .good) (S .fits) (r .call) (a .bytes)))
       by (inr one) =
-          next (known-limits (K .ledger) (run .stripe) (K .good) (K .fits) (r .call) (step (r .sizes) (r .call) (run .stripe))
-          (limits-same (r .sizes) (run .stripe) (r .call) .left one) one)
+          next (known-limits now (S .within) (K .ledger) (run .stripe) (S .good) (S .fits) (r .call) (step (r .sizes) (r .call) (run .stripe))
+          (limits-same (r .sizes) (run .stripe) (r .call) one) one)
 
   known-play : (calls : List Request) (run : Run) → AllAllowed z calls run → Known z run → Known z (play calls run)
   unfolding play AllAllowed
   known-play [] run a K = K
   known-play (r ∷ rs) run a K = known-play rs (made r run) (a .1) (known-made r run (a .0) K)
 
-  module _ (spare differences : List ℕ) (ls : length spare ≡ z .n * z .b) (ld : length differences ≡ z .m * z .b) (bs : Bytes spare) (bd : Bytes differences) where
+  module _ (within : sizesWithin z ≡ true) (spare differences : List ℕ) (ls : length spare ≡ z .n * z .b) (ld : length differences ≡ z .m * z .b) (bs : Bytes spare) (bd : Bytes differences) where
     known-start : Known z (start z spare differences)
+    unfolding nodesAt
     known-start =
+        let L = code-laws z within in
         let good = fresh-good z spare differences L in
         let fits = fresh-fits z spare differences ls ld bs bd in
+        let told = told-start z (omega (arith, L .k-n)) in
         record {
           ledger = noLedger (ops z);
-          good = good;
-          fits = fits;
-          told = told-start z;
+          stands = record { within = within; good = good; fits = fits };
+          told = told;
+          rooted = λ i i1 ik. rooted-start z i i1 (omega (arith, L .k-n));
+          keeps-done = λ e past is. no-event is;
           holds = record {
             rebuilt = λ e past is. no-event is;
-            steady = last-values z within (noLedger (ops z)) [] (told-start z) (start z spare differences .stripe .blocks) (fits .blocks)
+            steady = last-values z (noLedger (ops z)) [] told within (start z spare differences .stripe .blocks) (fits .blocks)
                 (fits .blocks-bytes) (good .inv .ids .no-stale)
                 (steady (ops z) L (noLedger (ops z)) (columns z (start z spare differences .stripe)) good);
           };
@@ -242,6 +295,12 @@ module _ (z : Sizes) (within : sizesWithin z ≡ true) where
         no-event : {A : Type 0} {e : Event} {past : List Event} → _≡_ {A = List Event} [] (e ∷ past) → A
         no-event q = let t : _≡_ {A = ℕ} 0 1 = cc in absurd (omega arith)
 
+known : EveryList Known
+known z within spare differences ls ld bs bd calls allowed =
+    known-play z calls (start z spare differences) allowed (known-start z within spare differences ls ld bs bd)
+
 pub demand3 : Demand3
-demand3 z within spare differences ls ld bs bd calls allowed =
-    known-play z within calls (start z spare differences) allowed (known-start z within spare differences ls ld bs bd) .holds
+demand3 z within spare differences ls ld bs bd calls allowed = known z within spare differences ls ld bs bd calls allowed .holds
+
+pub keeps-done : EveryList KeepsDone
+keeps-done z within spare differences ls ld bs bd calls allowed = known z within spare differences ls ld bs bd calls allowed .keeps-done

@@ -20,11 +20,11 @@ use Rattle.blocks.specs.Blocks.{block, Bytes}
 use Rattle.records.specs.declared.Sizes.{Sizes}
 use Rattle.records.specs.Sizes.{sizesWithin}
 use Rattle.machine.specs.Stripe.{elementAt}
-use Rattle.machine.specs.History.{Event, Kind, SwapInto, AddBy, PickBy, SettleBy, Failure, Other, accepted, kind, happened, isDone, countSettle, settles, finishesBy, finishes, given, Written, writeAt, writeBy, swapsAt, lastSwap, ifAt, reportBy, reportedAt, isFailure, failedSince, isAmong, lastValue}
+use Rattle.machine.specs.History.{Event, Kind, SwapInto, AddBy, PickBy, SettleBy, Failure, Other, accepted, kind, happened, isDone, countSettle, settles, nodesAt, sizesAt, finishesBy, finishes, given, Written, writeAt, writeBy, gathered, swapsAt, lastSwap, ifAt, reportBy, reportedAt, isFailure, failedSince, isAmong, lastValue}
 use Rattle.machine.specs.Guarantee.{FirstPart, RebuiltWell, LastValues}
 use Rattle.machine.specs.Guarantee as Guarantee
 use Rattle.machine.proofs.Base.{clash, or-one, or-false, or-left, or-right, each-place, upd, upd-same, upd-other, upd-ind, cond-ind}
-use Rattle.machine.proofs.Ledger.{upd2, Swapped, Ledger, Report, Quiet, noteSwap, noteDone, noteCount, noteFinish, isLast, noteSettle, note, noLedger, Rebuilt, Steady, AllDone}
+use Rattle.machine.proofs.Ledger.{upd2, Swapped, Ledger, Report, Quiet, noteSwap, noteDone, noteCount, noteFinish, isLast, noteSettle, note, noLedger, IsPart, Rebuilt, Steady, AllDone}
 use Rattle.machine.proofs.Frame.{upd2-same, upd2-ind}
 use Rattle.machine.proofs.Bytes.{Block, view, blockOf, ops}
 use Rattle.machine.proofs.Kept.{enteredAs, entry}
@@ -94,7 +94,7 @@ nth-among ws (suc l) m w i h = go ws l m (i .high) h (i .is)
     go (x ∷ ws) zero (suc m) a h e = or-left (eqb (w .place) (x .place)) (isAmong w (take m ws)) (eq-eqb (w .place) (x .place) (sym e))
     go (x ∷ ws) (suc l) (suc m) a h e = or-right (eqb (w .place) (x .place)) (isAmong w (take m ws)) (go ws l m (omega arith) (omega arith) e)
 
-among-append : (ws vs : List Written) (w : Written) → isAmong w (ws ++ vs) ≡ (isAmong w ws || isAmong w vs)
+pub among-append : (ws vs : List Written) (w : Written) → isAmong w (ws ++ vs) ≡ (isAmong w ws || isAmong w vs)
 unfolding isAmong
 among-append [] vs w = refl
 among-append (x ∷ ws) vs w = rw (isAmong, among-append ws vs w) (sym (or-assoc (eqb (w .place) (x .place)) (isAmong w ws) (isAmong w vs)))
@@ -143,6 +143,13 @@ more-places p ws w e P =
 no-last : {A : Type 0} (s : Swapped) → _≡_ {A = Option Swapped} none (some s) → A
 no-last s q = let x : _≡_ {A = ℕ} 0 1 = cc in absurd (omega arith)
 
+-- the call is a client's accepted settle, its last by the ledger, where the sizes are z
+pub record Finishes (z : Sizes) (h : Ledger Block) (e : Event) : Type 0 where
+  pub client : ℕ
+  pub settle : kind (e .call) ≡ SettleBy client
+  pub is-accepted : accepted e ≡ true
+  pub is-last : isLast (ops z) (h .settles client) ≡ true
+
 module _ (z : Sizes) where
   open Sizes z using (k, n, b)
 
@@ -155,7 +162,7 @@ module _ (z : Sizes) where
   -- of the swaps ws at i, made before place p since the table g was given: their count, and the value after each
   record ToldSwaps (i p : ℕ) (g : List ℕ) (ws : List Written) (len : ℕ) (val : ℕ → Block) : Type 0 where
     count : len ≡ length ws
-    value : 1 ≤ i → i ≤ n → (l : ℕ) → l ≤ len → IsValue (val l) (lastValue (block b i g) (take l ws))
+    value : 1 ≤ i → i ≤ k → (l : ℕ) → l ≤ len → IsValue (val l) (lastValue (block b i g) (take l ws))
     places : Places p ws
 
   -- of a client's last swap: it is s, one of the swaps ws at its position
@@ -172,40 +179,40 @@ module _ (z : Sizes) where
     marked : done l ≡ true
 
   abbrev SwapsTold : Ledger Block → List Event → ℕ → Type 0
-  SwapsTold h past i = ToldSwaps i (length past) (given z past) (swapsAt n i past) (h .len i) (h .val i)
+  SwapsTold h past i = ToldSwaps i (length past) (given z past) (swapsAt z i past) (h .len i) (h .val i)
 
   -- (of a swap from before the last finished rebuild the ledger tells nothing)
   abbrev LastTold : Ledger Block → List Event → ℕ → Type 0
-  LastTold h past c = (s : Swapped) → h .last c ≡ some s → ToldLast (lastSwap c past) (swapsAt n (s .pos) past) s
+  LastTold h past c = (s : Swapped) → h .last c ≡ some s → ToldLast (lastSwap c past) (swapsAt z (s .pos) past) s
 
   abbrev ReportsTold : Bool → (ℕ → ℕ → Bool) → List Event → Type 0
-  ReportsTold stale done past = stale ≡ false → (i : ℕ) (w : Written) → isAmong w (reportedAt n i past) ≡ true → ToldDone (done i) (swapsAt n i past) w
+  ReportsTold stale done past = stale ≡ false → (i : ℕ) (w : Written) → isAmong w (reportedAt z i past) ≡ true → ToldDone (done i) (swapsAt z i past) w
 
   pub record Told (h : Ledger Block) (past : List Event) : Type 0 where
     swaps : (i : ℕ) → SwapsTold h past i
     last : (c : ℕ) → LastTold h past c
     reported : ReportsTold (h .stale) (h .done) past
     counts : (c : ℕ) → h .settles c ≡ settles c past
-    failed : h .failed ≡ failedSince n past
+    failed : h .failed ≡ failedSince z past
 
   -- no swap since g was given
-  no-swaps : (i p : ℕ) (g : List ℕ) → length g ≡ n * b → Bytes g → ToldSwaps i p g [] 0 (λ l. blockOf b g i)
+  no-swaps : (m i p : ℕ) (g : List ℕ) → k ≤ m → length g ≡ m * b → Bytes g → ToldSwaps i p g [] 0 (λ l. blockOf b g i)
   unfolding lastValue
-  no-swaps i p g long bytes =
+  no-swaps m i p g wide long bytes =
       record {
         count = refl;
-        value = λ i1 in-n l le.
-            rw (take-nil l) (record { long = length-block b n i g i1 in-n long; bytes = bytes-block b i g bytes; seen = block-view b g i i1 });
+        value = λ i1 ik l le.
+            rw (take-nil l) (record { long = length-block b m i g i1 (omega arith) long; bytes = bytes-block b i g bytes; seen = block-view b g i i1 });
         places = no-places p;
       }
 
-  pub told-start : Told (noLedger (ops z)) []
-  unfolding noLedger swapsAt reportedAt given settles failedSince isAmong
-  told-start =
+  pub told-start : k ≤ n → Told (noLedger (ops z)) []
+  unfolding noLedger swapsAt reportedAt given settles failedSince isAmong gathered
+  told-start wide =
       let g : List ℕ = zeroes (n * b) in
       record {
         swaps = λ i.
-            subst (λ f. ToldSwaps i 0 g [] 0 (λ l. f i)) (zero-blocks b (n * b)) (no-swaps i 0 g (length-replicate (n * b) 0) (bytes-zeroes (n * b)));
+            subst (λ f. ToldSwaps i 0 g [] 0 (λ l. f i)) (zero-blocks b (n * b)) (no-swaps n i 0 g wide (length-replicate (n * b) 0) (bytes-zeroes (n * b)));
         last = λ c s l. no-last s l;
         reported = λ fresh i w among. clash among refl;
         counts = λ c. refl;
@@ -229,20 +236,20 @@ module _ (z : Sizes) where
       counts-are c = rw is
 
       -- and finishes no rebuild
-      module _ (goes-on : finishesBy n K past ≡ false) where
-        swaps-are : (i : ℕ) → swapsAt n i (e ∷ past) ≡ swapsAt n i past ++ writeAt i (length past) K
-        unfolding swapsAt finishes
+      module _ (goes-on : finishesBy (nodesAt n past) K past ≡ false) where
+        swaps-are : (i : ℕ) → swapsAt z i (e ∷ past) ≡ swapsAt z i past ++ writeAt i (length past) K
+        unfolding swapsAt finishes gathered
         swaps-are i = rw (is, goes-on)
 
-        reported-are : (i : ℕ) → reportedAt n i (e ∷ past) ≡ reportedAt n i past ++ reportBy i K (isDone (e .answer)) past
-        unfolding reportedAt finishes
+        reported-are : (i : ℕ) → reportedAt z i (e ∷ past) ≡ reportedAt z i past ++ reportBy i K (isDone (e .answer)) past
+        unfolding reportedAt finishes gathered
         reported-are i = rw (is, goes-on)
 
         given-is : given z (e ∷ past) ≡ given z past
         unfolding given finishes
         given-is = rw (is, goes-on)
 
-        failed-is : failedSince n (e ∷ past) ≡ (failedSince n past || isFailure K)
+        failed-is : failedSince z (e ∷ past) ≡ (failedSince z past || isFailure K)
         unfolding failedSince finishes
         failed-is = rw (is, goes-on)
 
@@ -250,8 +257,8 @@ module _ (z : Sizes) where
         told-swaps : (i : ℕ) → writeAt i (length past) K ≡ [] → SwapsTold h (e ∷ past) i
         told-swaps i unwritten =
             let t = T .swaps i in
-            rw (given-is, swaps-are i, unwritten, append-nil (swapsAt n i past))
-            (record { count = t .count; value = t .value; places = later-places (length past) (swapsAt n i past) (t .places) })
+            rw (given-is, swaps-are i, unwritten, append-nil (swapsAt z i past))
+            (record { count = t .count; value = t .value; places = later-places (length past) (swapsAt z i past) (t .places) })
 
         -- it is no swap of client c
         told-last : (c : ℕ) → writeBy c (length past) K (lastSwap c past) ≡ lastSwap c past → LastTold h (e ∷ past) c
@@ -262,23 +269,23 @@ module _ (z : Sizes) where
               swap = t .swap;
               is = t .is;
               position = t .position;
-              nth = nth-append (swapsAt n (s .pos) past) (writeAt (s .pos) (length past) K) (s .place) (t .swap .place) (t .nth);
+              nth = nth-append (swapsAt z (s .pos) past) (writeAt (s .pos) (length past) K) (s .place) (t .swap .place) (t .nth);
             })
 
-        told-done : (done : ℕ → Bool) (i : ℕ) (w : Written) → ToldDone done (swapsAt n i past) w → ToldDone done (swapsAt n i (e ∷ past)) w
+        told-done : (done : ℕ → Bool) (i : ℕ) (w : Written) → ToldDone done (swapsAt z i past) w → ToldDone done (swapsAt z i (e ∷ past)) w
         told-done done i w t =
             rw (swaps-are i)
-            (record { l = t .l; nth = nth-append (swapsAt n i past) (writeAt i (length past) K) (t .l) (w .place) (t .nth); marked = t .marked })
+            (record { l = t .l; nth = nth-append (swapsAt z i past) (writeAt i (length past) K) (t .l) (w .place) (t .nth); marked = t .marked })
 
         -- it reports nothing
         told-reports : ((i : ℕ) → reportBy i K (isDone (e .answer)) past ≡ []) → ReportsTold (h .stale) (h .done) (e ∷ past)
         told-reports unreported fresh i w among =
-            told-done (h .done i) i w (T .reported fresh i w (rw (reported-are i, unreported i, append-nil (reportedAt n i past)) at among))
+            told-done (h .done i) i w (T .reported fresh i w (rw (reported-are i, unreported i, append-nil (reportedAt z i past)) at among))
 
         -- it is no swap
         told-unwritten : {done : ℕ → ℕ → Bool} {stale : Bool} {counts : ℕ → Option ℕ} {failed : Bool}
             → ((i : ℕ) → writeAt i (length past) K ≡ []) → ((c : ℕ) → writeBy c (length past) K (lastSwap c past) ≡ lastSwap c past)
-            → ReportsTold stale done (e ∷ past) → ((c : ℕ) → counts c ≡ countSettle c K (settles c past)) → failed ≡ (failedSince n past || isFailure K)
+            → ReportsTold stale done (e ∷ past) → ((c : ℕ) → counts c ≡ countSettle c K (settles c past)) → failed ≡ (failedSince z past || isFailure K)
             → Told (record { len = h .len; val = h .val; done = done; last = h .last; stale = stale; settles = counts; failed = failed }) (e ∷ past)
         told-unwritten unwritten same reported counts failed =
             record {
@@ -293,13 +300,13 @@ module _ (z : Sizes) where
         told-quiet : {counts : ℕ → Option ℕ} {failed : Bool}
             → ((i : ℕ) → writeAt i (length past) K ≡ []) → ((c : ℕ) → writeBy c (length past) K (lastSwap c past) ≡ lastSwap c past)
             → ((i : ℕ) → reportBy i K (isDone (e .answer)) past ≡ [])
-            → ((c : ℕ) → counts c ≡ countSettle c K (settles c past)) → failed ≡ (failedSince n past || isFailure K)
+            → ((c : ℕ) → counts c ≡ countSettle c K (settles c past)) → failed ≡ (failedSince z past || isFailure K)
             → Told (record { len = h .len; val = h .val; done = h .done; last = h .last; stale = h .stale; settles = counts; failed = failed }) (e ∷ past)
         told-quiet unwritten same unreported = told-unwritten unwritten same (told-reports unreported)
 
     -- of a call that is no failure
-    no-failure : h .failed ≡ (failedSince n past || false)
-    no-failure = T .failed ∙ sym (or-false (failedSince n past))
+    no-failure : h .failed ≡ (failedSince z past || false)
+    no-failure = T .failed ∙ sym (or-false (failedSince z past))
 
     ---- an accepted swap
     module _ (c i : ℕ) (v : List ℕ) (is : happened e ≡ SwapInto c i v) (long : length v ≡ b) (bytes : Bytes v) where
@@ -310,7 +317,7 @@ module _ (z : Sizes) where
       new = record { position = i; value = v; place = length past }
 
       abbrev before : List Written
-      before = swapsAt n i past
+      before = swapsAt z i past
 
       -- as the ledger has it
       abbrev entered : Swapped
@@ -322,11 +329,11 @@ module _ (z : Sizes) where
       abbrev swapped : Ledger Block
       swapped = noteSwap h c i (view b v)
 
-      now-swaps : swapsAt n i (e ∷ past) ≡ before ++ (new ∷ [])
+      now-swaps : swapsAt z i (e ∷ past) ≡ before ++ (new ∷ [])
       now-swaps = swaps-are this is refl i ∙ rw (eq-eqb i i refl)
 
-      now-value : 1 ≤ i → i ≤ n → (l : ℕ) → l ≤ suc (h .len i) → IsValue (values l) (lastValue (block b i (given z past)) (take l (before ++ (new ∷ []))))
-      now-value i1 in-n =
+      now-value : 1 ≤ i → i ≤ k → (l : ℕ) → l ≤ suc (h .len i) → IsValue (values l) (lastValue (block b i (given z past)) (take l (before ++ (new ∷ []))))
+      now-value i1 ik =
           each-place (λ l. l ≤ suc (h .len i) → IsValue (values l) (lastValue (block b i (given z past)) (take l (before ++ (new ∷ [])))))
           (suc (h .len i)) (λ le. latest) older
         where
@@ -342,7 +349,7 @@ module _ (z : Sizes) where
           older : (l : ℕ) → suc (h .len i) ≢ l → l ≤ suc (h .len i) → IsValue (values l) (lastValue (block b i (given z past)) (take l (before ++ (new ∷ []))))
           older l d le =
               rw (upd-other (h .val i) (suc (h .len i)) (view b v) l d, take-append-le l before (new ∷ []) (omega (arith, t .count)))
-              (t .value i1 in-n l (omega arith))
+              (t .value i1 ik l (omega arith))
 
       told-swap : Told swapped (e ∷ past)
       unfolding upd2
@@ -373,7 +380,7 @@ module _ (z : Sizes) where
           own : LastTold swapped (e ∷ past) c
           own s l =
               let q : entered ≡ s = cc (upd-same (h .last) c (some entered)) in
-              subst (λ (s : Swapped). ToldLast (lastSwap c (e ∷ past)) (swapsAt n (s .pos) (e ∷ past)) s) q
+              subst (λ (s : Swapped). ToldLast (lastSwap c (e ∷ past)) (swapsAt z (s .pos) (e ∷ past)) s) q
               (rw (last-is this is c, eq-eqb c c refl, now-swaps)
               (record { swap = new; is = refl; position = refl; nth = rw (T .swaps i .count) (nth-new before new) }))
 
@@ -388,27 +395,27 @@ module _ (z : Sizes) where
         marks : ℕ → ℕ → Bool
         marks = upd2 (h .done) (s .pos) (s .place) true
 
-        t : ToldLast (lastSwap c past) (swapsAt n (s .pos) past) s
+        t : ToldLast (lastSwap c past) (swapsAt z (s .pos) past) s
         t = T .last c s l
 
         -- reported before, or now
-        by : h .stale ≡ false → (i : ℕ) (w : Written) → (isAmong w (reportedAt n i past) ≡ true) ⊎ (isAmong w (ifAt i (some (t .swap))) ≡ true)
-            → ToldDone (marks i) (swapsAt n i past) w
+        by : h .stale ≡ false → (i : ℕ) (w : Written) → (isAmong w (reportedAt z i past) ≡ true) ⊎ (isAmong w (ifAt i (some (t .swap))) ≡ true)
+            → ToldDone (marks i) (swapsAt z i past) w
         by fresh i w (inl old) =
             let d = T .reported fresh i w old in
             let kept = upd2-ind (λ i l x. h .done i l ≡ true → x ≡ true) (h .done) (s .pos) (s .place) true (λ m. refl) (λ i l x m. m) in
             record { l = d .l; nth = d .nth; marked = kept i (d .l) (d .marked) }
         by fresh i w (inr new) =
             let same = among-if i (t .swap) w new in
-            subst (λ i. ToldDone (marks i) (swapsAt n i past) w) (sym (same .0 ∙ t .position))
+            subst (λ i. ToldDone (marks i) (swapsAt z i past) w) (sym (same .0 ∙ t .position))
             (record { l = s .place; nth = rw (same .1) (t .nth); marked = upd2-same (h .done) (s .pos) (s .place) true })
 
         reported : ReportsTold (h .stale) marks (e ∷ past)
         reported fresh i w among =
             let now : List Written = ifAt i (some (t .swap)) in
             told-done (AddBy c) is refl (marks i) i w
-            (by fresh i w (or-one (isAmong w (reportedAt n i past)) (isAmong w now)
-            (sym (among-append (reportedAt n i past) now w) ∙ rw (reported-are (AddBy c) is refl i, done, t .is) at among)))
+            (by fresh i w (or-one (isAmong w (reportedAt z i past)) (isAmong w now)
+            (sym (among-append (reportedAt z i past) now w) ∙ rw (reported-are (AddBy c) is refl i, done, t .is) at among)))
 
     ---- picks and settles
     picked-counts : (c d : ℕ) → upd (h .settles) c (some 0) d ≡ countSettle d (PickBy c) (settles d past)
@@ -434,65 +441,59 @@ module _ (z : Sizes) where
     uncounted c l = each-place (λ d. h .settles d ≡ countSettle d (SettleBy c) (settles d past)) c (rw (← T .counts c, l)) (others-counts c)
 
     -- the nth settle is the ledger's last
-    settle-finishes : (c : ℕ) (count : Option ℕ) → h .settles c ≡ count → finishesBy n (SettleBy c) past ≡ isLast (ops z) count
+    settle-finishes : (c : ℕ) (count : Option ℕ) → h .settles c ≡ count → finishesBy (nodesAt n past) (SettleBy c) past ≡ isLast (ops (sizesAt z past)) count
     settle-finishes c none l = rw (← T .counts c, l)
     settle-finishes c (some y) l = rw (← T .counts c, l, eq-eqb c c refl)
 
-    module _ (long : length (e .blocks) ≡ n * b) (bytes : Bytes (e .blocks)) where
+    -- where the call leaves m blocks
+    module _ (m : ℕ) (wide : k ≤ m) (long : length (e .blocks) ≡ m * b) (bytes : Bytes (e .blocks)) where
       -- the blocks after the call
       abbrev left : ℕ → Block
       left = blockOf b (e .blocks)
 
-      told-finish : (c y : ℕ) → happened e ≡ SettleBy c → finishesBy n (SettleBy c) past ≡ true → h .settles c ≡ some y
+      told-finish : (c y : ℕ) → happened e ≡ SettleBy c → finishesBy (nodesAt n past) (SettleBy c) past ≡ true → h .settles c ≡ some y
           → Told (noteFinish h c (suc y) left) (e ∷ past)
-      unfolding swapsAt reportedAt given failedSince finishes isAmong
+      unfolding swapsAt reportedAt given failedSince finishes isAmong gathered
       told-finish c y is ends l =
           record {
-            swaps = λ i. rw (is, ends) (no-swaps i (suc (length past)) (e .blocks) long bytes);
+            swaps = λ i. rw (is, ends) (no-swaps m i (suc (length past)) (e .blocks) wide long bytes);
             last = λ d s q. no-last s q;
             reported = λ fresh i w among. clash (rw (is, ends) at among) refl;
             counts = λ d. settled-counts c y l d ∙ sym (counts-are (SettleBy c) is d);
             failed = rw (is, ends);
           }
 
-      told-settle : (c : ℕ) → happened e ≡ SettleBy c → (count : Option ℕ) → h .settles c ≡ count → Told (noteSettle (ops z) h c count left) (e ∷ past)
+      told-settle : (c : ℕ) → happened e ≡ SettleBy c → (count : Option ℕ) → h .settles c ≡ count → Told (noteSettle (ops (sizesAt z past)) h c count left) (e ∷ past)
       told-settle c is none l =
           told-quiet (SettleBy c) is (settle-finishes c none l) (λ i. refl) (λ d. refl) (λ i. refl) (uncounted c l) no-failure
       told-settle c is (some y) l =
           let test = settle-finishes c (some y) l in
-          cond-ind (λ h'. Told h' (e ∷ past)) (eqb (suc y) n) (noteFinish h c (suc y) left) (noteCount h c (suc y))
+          cond-ind (λ h'. Told h' (e ∷ past)) (eqb (suc y) (nodesAt n past)) (noteFinish h c (suc y) left) (noteCount h c (suc y))
           (λ t. told-finish c y is (test ∙ t) l)
           (λ t. told-quiet (SettleBy c) is (test ∙ t) (λ i. refl) (λ d. refl) (λ i. refl) (settled-counts c y l) no-failure)
 
-      told-kind : SwapsBlocks e → (K : Kind) → happened e ≡ K → Told (note (ops z) h (enteredAs b K (isDone (e .answer))) left) (e ∷ past)
+      told-kind : SwapsBlocks e → (K : Kind) → happened e ≡ K → Told (note (ops (sizesAt z past)) h (enteredAs b K (isDone (e .answer))) left) (e ∷ past)
       told-kind values (SwapInto c i v) is = told-swap c i v is (values c i v is .0) (values c i v is .1)
       told-kind values (AddBy c) is =
-          cond-ind (λ x. Told (note (ops z) h x left) (e ∷ past)) (isDone (e .answer)) (Report c) Quiet
+          cond-ind (λ x. Told (note (ops (sizesAt z past)) h x left) (e ∷ past)) (isDone (e .answer)) (Report c) Quiet
           (λ t. told-report c is t (h .last c) refl)
           (λ t. told-quiet (AddBy c) is refl (λ i. refl) (λ d. refl) (λ i. rw t) (T .counts) no-failure)
       told-kind values (PickBy c) is = told-quiet (PickBy c) is refl (λ i. refl) (λ d. refl) (λ i. refl) (picked-counts c) no-failure
       told-kind values (SettleBy c) is = told-settle c is (h .settles c) refl
       told-kind values Failure is =
-          told-quiet Failure is refl (λ i. refl) (λ d. refl) (λ i. refl) (T .counts) (sym (or-right (failedSince n past) true refl))
+          told-quiet Failure is refl (λ i. refl) (λ d. refl) (λ i. refl) (T .counts) (sym (or-right (failedSince z past) true refl))
       told-kind values Other is = told-quiet Other is refl (λ i. refl) (λ d. refl) (λ i. refl) (T .counts) no-failure
 
-      pub told-more : SwapsBlocks e → Told (note (ops z) h (entry z (e .call) (e .answer)) left) (e ∷ past)
+      pub told-more : SwapsBlocks e → Told (note (ops (sizesAt z past)) h (entry (sizesAt z past) (e .call) (e .answer)) left) (e ∷ past)
       told-more values = told-kind values (happened e) refl
 
   ---- what is proved of the ledger holds of the history
 
-  -- the call is a client's accepted settle, its last by the ledger
-  pub record Finishes (h : Ledger Block) (e : Event) : Type 0 where
-    pub client : ℕ
-    pub settle : kind (e .call) ≡ SettleBy client
-    pub is-accepted : accepted e ≡ true
-    pub is-last : isLast (ops z) (h .settles client) ≡ true
-
-  pub finish-is : (h : Ledger Block) (e : Event) (past : List Event) → Told h past → finishes n e past ≡ true → Finishes h e
+  pub finish-is : (h : Ledger Block) (e : Event) (past : List Event) → Told h past → finishes z e past ≡ true → Finishes (sizesAt z past) h e
   unfolding finishes
   finish-is h e past T = go (accepted e) refl (kind (e .call)) refl
     where
-      go : (a : Bool) → accepted e ≡ a → (K : Kind) → kind (e .call) ≡ K → finishesBy n (cond a K Other) past ≡ true → Finishes h e
+      go : (a : Bool) → accepted e ≡ a → (K : Kind) → kind (e .call) ≡ K → finishesBy (nodesAt n past) (cond a K Other) past ≡ true → Finishes (sizesAt z past) h e
       go false a K is ends = clash ends refl
       go true a (SwapInto c i v) is ends = clash ends refl
       go true a (AddBy c) is ends = clash ends refl
@@ -501,36 +502,43 @@ module _ (z : Sizes) where
       go true a Failure is ends = clash ends refl
       go true a Other is ends = clash ends refl
 
-  module _ (within : sizesWithin z ≡ true) (h : Ledger Block) (past : List Event) (T : Told h past)
-      (blocks : List ℕ) (long : length blocks ≡ n * b) (bytes : Bytes blocks) where
+  module _ (h : Ledger Block) (past : List Event) (T : Told h past) (within : sizesWithin (sizesAt z past) ≡ true)
+      (blocks : List ℕ) (long : length blocks ≡ nodesAt n past * b) (bytes : Bytes blocks) where
+    -- the sizes then
+    abbrev now : Sizes
+    now = sizesAt z past
+
     -- where block i is the ledger's value l, it is the history's
     value-is : (i : ℕ) → 1 ≤ i → i ≤ k → (l : ℕ) → l ≤ h .len i → blockOf b blocks i ≡ h .val i l
-        → block b i blocks ≡ lastValue (block b i (given z past)) (take l (swapsAt n i past))
+        → block b i blocks ≡ lastValue (block b i (given z past)) (take l (swapsAt z i past))
     value-is i i1 ik l le q =
-        let s = sizes z within in
-        let in-n : i ≤ n = omega arith in
-        let t = T .swaps i .value i1 in-n l le in
-        view-injective b (block b i blocks) (lastValue (block b i (given z past)) (take l (swapsAt n i past)))
-        (length-block b n i blocks i1 in-n long) (t .long) (bytes-block b i blocks bytes) (t .bytes) (sym (block-view b blocks i i1) ∙ q ∙ t .seen)
+        let s = sizes now within in
+        let in-n : i ≤ now .n = omega arith in
+        let t = T .swaps i .value i1 ik l le in
+        view-injective b (block b i blocks) (lastValue (block b i (given z past)) (take l (swapsAt z i past)))
+        (length-block b (now .n) i blocks i1 in-n long) (t .long) (bytes-block b i blocks bytes) (t .bytes) (sym (block-view b blocks i i1) ∙ q ∙ t .seen)
 
-    pub rebuilt-well : Rebuilt (ops z) h (blockOf b blocks) → RebuiltWell z past blocks
-    rebuilt-well r = record { codeword = codeword-of z blocks long bytes (r .codeword); position = first-part }
-      where
-        first-part : (i : ℕ) → 1 ≤ i → i ≤ k → FirstPart z i past blocks
-        first-part i i1 ik =
-            let p = r .part i (record { low = i1; high = ik }) in
-            record {
-              part = p .0;
-              value = value-is i i1 ik (p .0) (p .1 .0) (p .1 .1);
-              done = λ w among.
-                  let d = T .reported (r .reported) i w among in
-                  nth-among (swapsAt n i past) (d .l) (p .0) w (d .nth) (p .1 .2 (d .l) (d .marked));
-            }
+    first-part : h .stale ≡ false → (i : ℕ) → 1 ≤ i → i ≤ k → IsPart (ops now) h i (blockOf b blocks i) → FirstPart z i past blocks
+    first-part fresh i i1 ik p =
+        record {
+          part = p .0;
+          value = value-is i i1 ik (p .0) (p .1 .0) (p .1 .1);
+          done = λ w among.
+              let d = T .reported fresh i w among in
+              nth-among (swapsAt z i past) (d .l) (p .0) w (d .nth) (p .1 .2 (d .l) (d .marked));
+        }
+
+    pub rebuilt-well : Rebuilt (ops now) h (blockOf b blocks) → RebuiltWell z past blocks
+    rebuilt-well r =
+        record {
+          codeword = codeword-of now blocks long bytes (r .codeword);
+          position = λ i i1 ik. first-part (r .reported) i i1 ik (r .part i (record { low = i1; high = ik }));
+        }
 
     -- every swap is reported, so each is done
-    all-done : h .stale ≡ false → Guarantee.AllDone z past → AllDone (ops z) h
+    all-done : h .stale ≡ false → Guarantee.AllDone z past → AllDone (ops now) h
     all-done fresh all i pos l l1 le =
-        let ws : List Written = swapsAt n i past in
+        let ws : List Written = swapsAt z i past in
         let w : Written = elementAt noWrite ws l in
         let t = T .swaps i in
         let nth : IsNth ws l (w .place) = record { low = l1; high = rw (← t .count) le; is = refl } in
@@ -538,12 +546,12 @@ module _ (z : Sizes) where
         let d = T .reported fresh i w (all i (pos .low) (pos .high) w among) in
         rw (← t .places .own (d .l) l (w .place) (d .nth) nth) (d .marked)
 
-    pub last-values : h .stale ≡ false → Steady (ops z) h (blockOf b blocks) → failedSince n past ≡ false → Guarantee.AllDone z past → LastValues z past blocks
+    pub last-values : h .stale ≡ false → Steady (ops now) h (blockOf b blocks) → failedSince z past ≡ false → Guarantee.AllDone z past → LastValues z past blocks
     last-values fresh steady sound all =
         let none-failed = T .failed ∙ sound in
         let done = all-done fresh all in
         record {
-          codeword = codeword-of z blocks long bytes (steady .codeword none-failed done);
+          codeword = codeword-of now blocks long bytes (steady .codeword none-failed done);
           position = λ i i1 ik.
-              rw (T .swaps i .count, take-length (swapsAt n i past)) at (value-is i i1 ik (h .len i) (omega arith) (steady .values none-failed done i (record { low = i1; high = ik })));
+              rw (T .swaps i .count, take-length (swapsAt z i past)) at (value-is i i1 ik (h .len i) (omega arith) (steady .values none-failed done i (record { low = i1; high = ik })));
         }

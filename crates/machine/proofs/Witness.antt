@@ -1,13 +1,21 @@
--- The guarantee is not empty: in the list of calls of example 6 the last call finishes a rebuild, by the definitions of specs/History; a swap was
--- accepted at position 1 since the start, none at 2, and none was reported done. Assumes nothing.
-use mathlib.Core.Path.{_≡_, refl}
+-- The guarantee is not empty. Three lists of calls that it covers (`covered`), what they are by the definitions of specs/History, and what it says of them:
+--     example 6           the last call finishes a rebuild; before it one swap was accepted, and none was reported done (`half-rebuilt`)
+--     written, rebuild    the last call finishes a rebuild; before it one swap was accepted, and it was reported done (`done-rebuilt`, `done-kept`)
+--     written             no node has failed and every accepted swap is done (`none-failed`, `all-done`), and there is one (`one-swap`, `written-values`)
+-- Assumes nothing.
+use mathlib.Core.Path.{_≡_, refl, sym, ap, subst, _∙_}
 use mathlib.Core.Bool.{Bool, true, false}
 use mathlib.Core.List.{List, [], _∷_, _++_, map}
-use Prim.Native.Nat.{ℕ}
-use lib.ListN.{length}
+use mathlib.Core.Logic.{inl}
+use Prim.Native.Nat.{ℕ, zero, suc, _≤_, _<_}
+use native.Mathlib.Omega.{arith}
+use lib.Dec.{eqb}
+use lib.ListN.{length, getD}
+use borrow.Author.Tests.{eqb-true}
 use Rattle.records.specs.declared.Sizes.{Sizes}
 use Rattle.gf256.specs.Field as Field
 use Rattle.blocks.specs.Blocks as Blocks
+use Rattle.blocks.specs.Blocks.{Bytes}
 use Rattle.code.specs.Code as Code
 use Rattle.code.specs.Decode as Decode
 use Rattle.records.specs.Sizes as Sizes
@@ -15,34 +23,167 @@ use Rattle.records.specs.Entries as Entries
 use Rattle.records.specs.Node as Node
 use Rattle.records.specs.Client as Client
 use Rattle.machine.specs.Stripe as Stripe
+use Rattle.machine.specs.Stripe.{everyOf}
 use Rattle.machine.specs.Writing as Writing
 use Rattle.machine.specs.Rebuild as Rebuild
-use Rattle.machine.specs.Calls.{Call, Pick, Write, Settle, step}
+use Rattle.machine.specs.Failure as Failure
+use Rattle.machine.specs.Calls.{Call, swap, add, pick, write, settle, step}
 use Rattle.machine.specs.History as History
-use Rattle.machine.specs.History.{Event}
-use Rattle.machine.specs.Guarantee.{Request, Run, made, play, start}
+use Rattle.machine.specs.History.{Event, Written, nodesAt, sizesAt, finishes, swapsAt, reportedAt, failedSince, isAmong}
+use Rattle.machine.specs.Guarantee.{Request, Run, AllAllowed, AllDone, LastValues, RebuiltWell, Holds, valueOf, made, play, start}
 use Rattle.machine.specs.Examples.{sizes, times, locks, halfWritten}
+use Rattle.machine.proofs.Base.{clash, and-both}
+use Rattle.machine.proofs.Theorem.{demand3}
 
--- the history of example 6
-abbrev past : List Event
-past =
-    play (map (λ x. record { sizes = sizes 1; call = x }) (halfWritten ++ (locks ++ (Pick 2 ∷ (times 4 (Write 2) ++ times 4 (Settle 2))))))
-    (start (sizes 1) (170 ∷ 170 ∷ 170 ∷ 170 ∷ []) (85 ∷ 85 ∷ [])) .past
+abbrev z : Sizes
+z = sizes 1
 
--- whether the last call finished a rebuild; and before it, how many swaps there were at positions 1 and 2, and reports at 1
-abbrev seen : List Event → List ℕ
-seen [] = []
-seen (e ∷ before) =
-    length (History.swapsAt 4 1 before) ∷ length (History.swapsAt 4 2 before) ∷ length (History.reportedAt 4 1 before) ∷ length (History.swapsAt 4 1 (e ∷ before)) ∷ []
+-- client 1 writes 01 into position 1; the second add is answered Done
+abbrev pub written : List Call
+written = swap 1 1 (1 ∷ []) ∷ add 1 3 ∷ add 1 4 ∷ []
 
-abbrev ends : List Event → Bool
-ends [] = false
-ends (e ∷ before) = History.finishes 4 e before
+-- client 2 rebuilds the stripe, up to its last settle
+abbrev pub rebuild : List Call
+rebuild = locks ++ (pick 2 ∷ (times 4 (write 2) ++ times 4 (settle 2)))
 
-pub finished : ends past ≡ true
-unfolding times step Field.double Field.timesBits Field.product Field.squares Field.inverse Blocks.part Blocks.setPart Blocks.byteAt Blocks.listOf Blocks.table Blocks.zip Code.codeSizes Code.sum Code.coefficient Code.row Code.symbol Code.redundant Decode.has Decode.setOf Decode.membersFrom Decode.others Decode.scale Decode.recover Decode.recovered Decode.recoveredTable Decode.each Decode.invertible Sizes.sizesWithin Entries.sameId Entries.isIn Entries.isListed Entries.isRecentIn Entries.isOldIn Entries.lastRecentAfter Entries.aged Node.idWithin Node.entriesWithin Node.setWithin Node.nodeWithin Client.idsWithin Client.unlOrExp Client.clientWithin Stripe.elementAt Stripe.setAt Stripe.guard Stripe.everyOf Stripe.someOf Writing.swap Writing.addEnter Writing.addAfter Writing.addWrite Writing.add Writing.stop Writing.fail Rebuild.holding Rebuild.lockNode Rebuild.lockIn Rebuild.lock Rebuild.recentIds Rebuild.atPosition Rebuild.largest Rebuild.countInit Rebuild.largestEpoch Rebuild.pickNow Rebuild.pickIn Rebuild.pick Rebuild.writeIn Rebuild.write Rebuild.settleIn Rebuild.settle made play History.settles History.finishes History.swapsAt History.lastSwap History.reportedAt
-finished = refl
+---- what the lists are
+abbrev spare : List ℕ
+spare = 170 ∷ 170 ∷ 170 ∷ 170 ∷ []
 
-pub swaps : seen past ≡ 1 ∷ 0 ∷ 0 ∷ 0 ∷ []
-unfolding times step Field.double Field.timesBits Field.product Field.squares Field.inverse Blocks.part Blocks.setPart Blocks.byteAt Blocks.listOf Blocks.table Blocks.zip Code.codeSizes Code.sum Code.coefficient Code.row Code.symbol Code.redundant Decode.has Decode.setOf Decode.membersFrom Decode.others Decode.scale Decode.recover Decode.recovered Decode.recoveredTable Decode.each Decode.invertible Sizes.sizesWithin Entries.sameId Entries.isIn Entries.isListed Entries.isRecentIn Entries.isOldIn Entries.lastRecentAfter Entries.aged Node.idWithin Node.entriesWithin Node.setWithin Node.nodeWithin Client.idsWithin Client.unlOrExp Client.clientWithin Stripe.elementAt Stripe.setAt Stripe.guard Stripe.everyOf Stripe.someOf Writing.swap Writing.addEnter Writing.addAfter Writing.addWrite Writing.add Writing.stop Writing.fail Rebuild.holding Rebuild.lockNode Rebuild.lockIn Rebuild.lock Rebuild.recentIds Rebuild.atPosition Rebuild.largest Rebuild.countInit Rebuild.largestEpoch Rebuild.pickNow Rebuild.pickIn Rebuild.pick Rebuild.writeIn Rebuild.write Rebuild.settleIn Rebuild.settle made play History.settles History.finishes History.swapsAt History.lastSwap History.reportedAt
-swaps = refl
+abbrev differences : List ℕ
+differences = 85 ∷ 85 ∷ []
+
+abbrev begin : Run
+begin = start z spare differences
+
+abbrev requests : List Call → List Request
+requests calls = map (λ call. record { sizes = z; call = call }) calls
+
+abbrev runOf : List Call → Run
+runOf calls = play (requests calls) begin
+
+abbrev pastOf : List Call → List Event
+pastOf calls = runOf calls .past
+
+abbrev theWrite : Written
+theWrite = record { position = 1; value = 1 ∷ []; place = 0 }
+
+-- whether the last call finished a rebuild, with the blocks that it left; and before it, the swaps and the reports at position 1
+record Ended : Type 0 where
+  finished : Bool
+  blocks : List ℕ
+  swaps : List Written
+  reported : List Written
+
+abbrev ended : List Event → Ended
+ended [] = record { finished = false; blocks = []; swaps = []; reported = [] }
+ended (e ∷ past) = record { finished = finishes z e past; blocks = e .blocks; swaps = swapsAt z 1 past; reported = reportedAt z 1 past }
+
+-- example 6
+pub half-rebuilt : ended (pastOf (halfWritten ++ rebuild)) ≡
+    record { finished = true; blocks = 1 ∷ 0 ∷ 142 ∷ 244 ∷ []; swaps = theWrite ∷ []; reported = [] }
+unfolding times step Field.double Field.timesBits Field.product Field.squares Field.inverse Blocks.part Blocks.setPart Blocks.byteAt Blocks.listOf Blocks.table Blocks.zip Code.codeSizes Code.sum Code.coefficient Code.row Code.symbol Code.redundant Decode.has Decode.setOf Decode.membersFrom Decode.others Decode.scale Decode.recover Decode.recovered Decode.recoveredTable Decode.each Decode.invertible Sizes.sizesWithin Entries.sameId Entries.isIn Entries.isListed Entries.isRecentIn Entries.isOldIn Entries.lastRecentAfter Entries.aged Node.idWithin Node.entriesWithin Node.setWithin Node.nodeWithin Client.idsWithin Client.unlOrExp Client.clientWithin Stripe.elementAt Stripe.setAt Stripe.guard Stripe.everyOf Stripe.someOf Writing.swap Writing.addEnter Writing.addAfter Writing.addWrite Writing.add Failure.stop Failure.fail Rebuild.holding Rebuild.lockNode Rebuild.lockIn Rebuild.lock Rebuild.recentIds Rebuild.atPosition Rebuild.largest Rebuild.countInit Rebuild.largestEpoch Rebuild.pickNow Rebuild.pickIn Rebuild.pick Rebuild.writeIn Rebuild.write Rebuild.settleIn Rebuild.settle made play History.settles History.nodesAt History.finishes History.swapsAt History.lastSwap History.reportedAt History.failedSince History.gathered
+half-rebuilt = refl
+
+pub done-rebuilt : ended (pastOf (written ++ rebuild)) ≡
+    record { finished = true; blocks = 1 ∷ 0 ∷ 142 ∷ 244 ∷ []; swaps = theWrite ∷ []; reported = theWrite ∷ [] }
+unfolding times step Field.double Field.timesBits Field.product Field.squares Field.inverse Blocks.part Blocks.setPart Blocks.byteAt Blocks.listOf Blocks.table Blocks.zip Code.codeSizes Code.sum Code.coefficient Code.row Code.symbol Code.redundant Decode.has Decode.setOf Decode.membersFrom Decode.others Decode.scale Decode.recover Decode.recovered Decode.recoveredTable Decode.each Decode.invertible Sizes.sizesWithin Entries.sameId Entries.isIn Entries.isListed Entries.isRecentIn Entries.isOldIn Entries.lastRecentAfter Entries.aged Node.idWithin Node.entriesWithin Node.setWithin Node.nodeWithin Client.idsWithin Client.unlOrExp Client.clientWithin Stripe.elementAt Stripe.setAt Stripe.guard Stripe.everyOf Stripe.someOf Writing.swap Writing.addEnter Writing.addAfter Writing.addWrite Writing.add Failure.stop Failure.fail Rebuild.holding Rebuild.lockNode Rebuild.lockIn Rebuild.lock Rebuild.recentIds Rebuild.atPosition Rebuild.largest Rebuild.countInit Rebuild.largestEpoch Rebuild.pickNow Rebuild.pickIn Rebuild.pick Rebuild.writeIn Rebuild.write Rebuild.settleIn Rebuild.settle made play History.settles History.nodesAt History.finishes History.swapsAt History.lastSwap History.reportedAt History.failedSince History.gathered
+done-rebuilt = refl
+
+-- what a history has since the last finished rebuild, at positions 1 and 2
+record Since : Type 0 where
+  failed : Bool
+  swaps : List Written
+  reported : List Written
+  elsewhere : List Written
+
+abbrev since : List Event → Since
+since past = record { failed = failedSince z past; swaps = swapsAt z 1 past; reported = reportedAt z 1 past; elsewhere = swapsAt z 2 past }
+
+written-since : since (pastOf written) ≡ record { failed = false; swaps = theWrite ∷ []; reported = theWrite ∷ []; elsewhere = [] }
+unfolding times step Field.double Field.timesBits Field.product Field.squares Field.inverse Blocks.part Blocks.setPart Blocks.byteAt Blocks.listOf Blocks.table Blocks.zip Code.codeSizes Code.sum Code.coefficient Code.row Code.symbol Code.redundant Decode.has Decode.setOf Decode.membersFrom Decode.others Decode.scale Decode.recover Decode.recovered Decode.recoveredTable Decode.each Decode.invertible Sizes.sizesWithin Entries.sameId Entries.isIn Entries.isListed Entries.isRecentIn Entries.isOldIn Entries.lastRecentAfter Entries.aged Node.idWithin Node.entriesWithin Node.setWithin Node.nodeWithin Client.idsWithin Client.unlOrExp Client.clientWithin Stripe.elementAt Stripe.setAt Stripe.guard Stripe.everyOf Stripe.someOf Writing.swap Writing.addEnter Writing.addAfter Writing.addWrite Writing.add Failure.stop Failure.fail Rebuild.holding Rebuild.lockNode Rebuild.lockIn Rebuild.lock Rebuild.recentIds Rebuild.atPosition Rebuild.largest Rebuild.countInit Rebuild.largestEpoch Rebuild.pickNow Rebuild.pickIn Rebuild.pick Rebuild.writeIn Rebuild.write Rebuild.settleIn Rebuild.settle made play History.settles History.nodesAt History.finishes History.swapsAt History.lastSwap History.reportedAt History.failedSince History.gathered
+written-since = refl
+
+pub none-failed : failedSince z (pastOf written) ≡ false
+none-failed = ap (λ (t : Since). t .failed) written-since
+
+pub one-swap : swapsAt z 1 (pastOf written) ≡ theWrite ∷ []
+one-swap = ap (λ (t : Since). t .swaps) written-since
+
+pub all-done : AllDone z (pastOf written)
+unfolding isAmong
+all-done i low high w among = at i low high among
+  where
+    at : (i : ℕ) → 1 ≤ i → i ≤ 2 → isAmong w (swapsAt z i (pastOf written)) ≡ true → isAmong w (reportedAt z i (pastOf written)) ≡ true
+    at zero low high among = absurd (omega arith)
+    at (suc zero) low high among = ap (isAmong w) (ap (λ (t : Since). t .reported) written-since ∙ sym one-swap) ∙ among
+    at (suc (suc zero)) low high among = clash among (ap (isAmong w) (ap (λ (t : Since). t .elsewhere) written-since))
+    at (suc (suc (suc i))) low high among = absurd (omega arith)
+
+---- the guarantee covers them
+-- no call changes n
+same-nodes : (past : List Event) → nodesAt 4 past ≡ 4
+unfolding nodesAt
+same-nodes [] = refl
+same-nodes (e ∷ past) = same-nodes past
+
+same-sizes : (past : List Event) → sizesAt z past ≡ z
+same-sizes past = rw (same-nodes past)
+
+---- their values are bytes
+no-byte : Bytes []
+no-byte = record { small = λ q. omega arith }
+
+one-more : (v : ℕ) (t : List ℕ) → v < 256 → Bytes t → Bytes (v ∷ t)
+one-more v t small bytes = record { small = at }
+  where
+    at : (q : ℕ) → getD (v ∷ t) q 0 < 256
+    at zero = small
+    at (suc q) = bytes .small q
+
+unfoldable AllBytes : List Call → Type 0
+AllBytes [] = Unit {0}
+AllBytes (call ∷ calls) = Bytes (valueOf call) × AllBytes calls
+
+-- the calls after the swap have none
+bare-bytes : (calls : List Call) → everyOf (λ call. eqb (length (valueOf call)) 0) calls ≡ true → AllBytes calls
+unfolding AllBytes everyOf
+bare-bytes [] e = tt
+bare-bytes (call ∷ calls) e =
+    let each = and-both (eqb (length (valueOf call)) 0) _ e in
+    (subst Bytes (sym (none (valueOf call) (eqb-true _ _ (each .0)))) no-byte, bare-bytes calls (each .1))
+  where
+    none : (v : List ℕ) → length v ≡ 0 → v ≡ []
+    none [] q = refl
+    none (x ∷ v) q = absurd (omega arith)
+
+allowed : (calls : List Call) (run : Run) → AllBytes calls → AllAllowed z (requests calls) run
+unfolding AllBytes AllAllowed
+allowed [] run bytes = tt
+allowed (call ∷ calls) run bytes =
+    (record { sizes = inl (sym (same-sizes (run .past))); bytes = bytes .0 }, allowed calls (made (record { sizes = z; call = call }) run) (bytes .1))
+
+pub covered : (calls : List Call) → everyOf (λ call. eqb (length (valueOf call)) 0) calls ≡ true →
+    AllAllowed z (requests (swap 1 1 (1 ∷ []) ∷ calls)) begin
+unfolding AllBytes
+covered calls bare = allowed (swap 1 1 (1 ∷ []) ∷ calls) begin (one-more 1 [] (omega arith) no-byte, bare-bytes calls bare)
+
+---- so it says of them
+holds : (calls : List Call) → everyOf (λ call. eqb (length (valueOf call)) 0) calls ≡ true → Holds z (runOf (swap 1 1 (1 ∷ []) ∷ calls))
+unfolding Sizes.sizesWithin Code.codeSizes
+holds calls bare =
+    let small : 170 < 256 = omega arith in
+    let less : 85 < 256 = omega arith in
+    demand3 z refl spare differences refl refl
+    (one-more 170 _ small (one-more 170 _ small (one-more 170 _ small (one-more 170 _ small no-byte)))) (one-more 85 _ less (one-more 85 _ less no-byte))
+    (requests (swap 1 1 (1 ∷ []) ∷ calls)) (covered calls bare)
+
+pub written-values : LastValues z (pastOf written) (runOf written .stripe .blocks)
+unfolding everyOf
+written-values = holds (add 1 3 ∷ add 1 4 ∷ []) refl .steady none-failed all-done
+
+pub done-kept : (e : Event) (past : List Event) → pastOf (written ++ rebuild) ≡ e ∷ past → RebuiltWell z past (runOf (written ++ rebuild) .stripe .blocks)
+unfolding everyOf times
+done-kept e past is =
+    holds (add 1 3 ∷ add 1 4 ∷ rebuild) refl .rebuilt e past is
+    (ap (λ p. ended p .finished) (sym is) ∙ ap (λ (t : Ended). t .finished) done-rebuilt)

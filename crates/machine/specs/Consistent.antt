@@ -1,20 +1,22 @@
 -- Document 01, "Pick c": which sets of nodes are consistent and which of them is taken, apart from how it is found. `f` and `largest` are those of
--- Rebuild.antt; that `largest` is the set taken, and that there is no other, is proved (proofs/Largest.antt). Assumes nothing.
+-- Rebuild.antt. The two statements at the end say that `largest` is the set taken, and that there is no other; proofs/Largest proves them.
+-- Assumes nothing.
 use mathlib.Core.Bool.{true}
 use mathlib.Core.List.{List}
 use mathlib.Core.Path.{_≡_}
-use Prim.Native.Nat.{ℕ, _≤_, _<_}
+use Prim.Native.Nat.{ℕ, _-_, _≤_, _<_}
+use lib.ListN.{length}
 use Rattle.code.specs.Decode.{NodeSet, has, size}
 use Rattle.records.specs.declared.Sizes.{Sizes}
 use Rattle.records.specs.declared.WriteId.{WriteId}
 use Rattle.records.specs.Entries.{isIn}
 use Rattle.records.specs.Node.{Node, isNorm}
 use Rattle.machine.specs.Stripe.{nodeAt}
-use Rattle.machine.specs.Rebuild.{f, atPosition}
+use Rattle.machine.specs.Rebuild.{f, atPosition, largest}
 
 -- equal sets of ids: an id is in the one if and only if it is in the other
 abbrev pub SameSet : List WriteId → List WriteId → Type 0
-SameSet a b = (x : WriteId) → isIn x a ≡ isIn x b
+SameSet a b = (id : WriteId) → isIn id a ≡ isIn id b
 
 -- "1 to k hold data, k+1 to n are redundant": r is a redundant member of the set
 pub record Redundant (z : Sizes) (set : NodeSet) (r : ℕ) : Type 0 where
@@ -52,3 +54,13 @@ pub record TheLargest (z : Sizes) (nodes : List Node) (set : NodeSet) : Type 0 w
   pub dataFirst : (other : NodeSet) → Tie z nodes set other → AllData z other → AllData z set
   -- "then the one with the lowest redundant member"
   pub lowestFirst : (other : NodeSet) → Tie z nodes set other → (q r : ℕ) → Lowest (Redundant z set) q → Lowest (Redundant z other) r → q ≤ r
+
+-- `largest`, as Rebuild finds it among the candidates, is the set that the document takes
+abbrev pub PicksTheLargest : Type 0
+PicksTheLargest = (z : Sizes) (nodes : List Node) → length nodes ≡ z .n → z .n ≤ 18 → TheLargest z nodes (largest z nodes (z .n - z .k))
+
+-- and the document takes no other
+abbrev pub OneLargest : Type 0
+OneLargest =
+    (z : Sizes) (nodes : List Node) → length nodes ≡ z .n → z .n ≤ 18 → (set other : NodeSet) → TheLargest z nodes set → TheLargest z nodes other →
+    (j : ℕ) → has set j ≡ has other j

@@ -3,13 +3,15 @@
 use mathlib.Core.List.{List, [], _∷_, _++_}
 use Prim.Native.Nat.{ℕ, zero, suc}
 use Rattle.code.specs.Code.{redundant}
-use Rattle.code.specs.Decode.{members, recoveredTable, setOf}
+use Rattle.code.specs.Decode.{members, recoveredTable}
 use Rattle.code.specs.Calls.{given}
 use Rattle.records.specs.declared.Sizes.{Sizes}
 use Rattle.records.specs.declared.Refusal.{Refusal}
-use Rattle.records.specs.declared.Refusal.the-variants.{OutOfLimits, OutOfRange, OutOfPhase, WrongMode, OldEpoch, BeforePrevious, Full, Exhausted, Locked, NotHeld, TooFew, NoInverse}
-use Rattle.machine.specs.Stripe.{Stripe, Answer, Accepted, Shown, Added, Done, CheckInit, CheckGc, NoChange, Rebuilt, Refused, number, fresh, nodeAt}
-use Rattle.machine.specs.Calls.{Call, Swap, Add, Stop, Fail, Lock, Pick, Write, Settle, step}
+use Rattle.records.specs.declared.Refusal.the-variants.{OutOfLimits, OutOfRange, OutOfPhase, WrongMode, OldEpoch, BeforePrevious, Full, Exhausted}
+use Rattle.records.specs.declared.Refusal.the-variants.{Locked, NotHeld, TooFew, NoInverse}
+use Rattle.machine.specs.Stripe.{Stripe, Answer, Accepted, Shown, Added, Done, CheckInit, CheckGc, NoChange, Rebuilt, Refused, number, fresh}
+use Rattle.machine.specs.Stripe.{nodeAt}
+use Rattle.machine.specs.Calls.{Call, swap, add, stop, fail, lock, pick, write, settle, step}
 
 abbrev pub sizes : ℕ → Sizes
 sizes failures = record { k = 2; n = 4; b = 1; failures = failures; m = 2 }
@@ -17,27 +19,27 @@ sizes failures = record { k = 2; n = 4; b = 1; failures = failures; m = 2 }
 -- the stripe after calls on a fresh one; any bytes in the spare and the differences
 unfoldable pub after : Sizes → List Call → Stripe → Stripe
 after z [] s = s
-after z (x ∷ xs) s = after z xs (step z x s .after)
+after z (call ∷ calls) s = after z calls (step z call s .after)
 
 abbrev pub ran : ℕ → List Call → Stripe
-ran failures xs = after (sizes failures) xs (fresh (sizes failures) (170 ∷ 170 ∷ 170 ∷ 170 ∷ []) (85 ∷ 85 ∷ []))
+ran failures calls = after (sizes failures) calls (fresh (sizes failures) (170 ∷ 170 ∷ 170 ∷ 170 ∷ []) (85 ∷ 85 ∷ []))
 
 unfoldable pub times : ℕ → Call → List Call
-times zero x = []
-times (suc n) x = x ∷ times n x
+times zero call = []
+times (suc n) call = call ∷ times n call
 
 -- client 2 locks all four nodes
 abbrev pub locks : List Call
-locks = times 4 (Lock 2)
+locks = times 4 (lock 2)
 
 -- the answer's number and the size returned
 abbrev pub sizeOf : Refusal → List ℕ
 sizeOf OutOfLimits = []
 sizeOf OutOfRange = []
 sizeOf OutOfPhase = []
-sizeOf (WrongMode o l) = []
-sizeOf (OldEpoch e) = []
-sizeOf (BeforePrevious x) = []
+sizeOf (WrongMode opmode lmode) = []
+sizeOf (OldEpoch epoch) = []
+sizeOf (BeforePrevious id) = []
 sizeOf Full = []
 sizeOf Exhausted = []
 sizeOf Locked = []
@@ -57,7 +59,8 @@ returned Rebuilt = []
 returned (Refused why) = sizeOf why
 
 abbrev pub pickAfter : ℕ → List Call → List ℕ
-pickAfter failures xs = let o = step (sizes failures) (Pick 2) (ran failures (xs ++ locks)) in number (o .answer) ∷ returned (o .answer)
+pickAfter failures calls =
+    let outcome = step (sizes failures) (pick 2) (ran failures (calls ++ locks)) in number (outcome .answer) ∷ returned (outcome .answer)
 
 -- the set, which node 1 has once all are written; then the four blocks and the epochs of nodes 1 and 4, settled
 abbrev pub told : Stripe → Stripe → List ℕ
@@ -65,14 +68,14 @@ told written settled =
     members (nodeAt (written .nodes) 1 .rset) ++ (settled .blocks ++ (nodeAt (settled .nodes) 1 .epoch .0 ∷ nodeAt (settled .nodes) 4 .epoch .0 ∷ []))
 
 abbrev pub settledFrom : ℕ → Stripe → List ℕ
-settledFrom failures written = told written (after (sizes failures) (times 4 (Settle 2)) written)
+settledFrom failures written = told written (after (sizes failures) (times 4 (settle 2)) written)
 
 abbrev pub rebuiltAfter : ℕ → List Call → List ℕ
-rebuiltAfter failures xs = settledFrom failures (ran failures (xs ++ (locks ++ (Pick 2 ∷ times 4 (Write 2)))))
+rebuiltAfter failures calls = settledFrom failures (ran failures (calls ++ (locks ++ (pick 2 ∷ times 4 (write 2)))))
 
 -- "Client 1 swaps 01 into 1, adds at 3, stops"
 abbrev pub halfWritten : List Call
-halfWritten = Swap 1 1 (1 ∷ []) ∷ Add 1 3 ∷ Stop 1 ∷ []
+halfWritten = swap 1 1 (1 ∷ []) ∷ add 1 3 ∷ stop 1 ∷ []
 
 -- c1 to c8 are what the definitions give, d1 to d8 what the document says
 
@@ -127,7 +130,7 @@ d7 = 11 ∷ 3 ∷ []
 
 -- 8. "As 6, but node 1 then fails: {2,3}, and 01 is kept."
 abbrev pub c8 : List ℕ
-c8 = rebuiltAfter 1 (halfWritten ++ (Fail 1 (9 ∷ []) ∷ []))
+c8 = rebuiltAfter 1 (halfWritten ++ (fail 1 (9 ∷ []) ∷ []))
 
 abbrev pub d8 : List ℕ
 d8 = 2 ∷ 3 ∷ 1 ∷ 0 ∷ 142 ∷ 244 ∷ 1 ∷ 1 ∷ []

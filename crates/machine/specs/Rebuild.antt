@@ -1,5 +1,7 @@
--- Document 01, "Rebuild". Each call tests what it is lent (1), then in the order of the numbers. Assumes nothing.
-use mathlib.Core.Bool.{Bool, true, false, cond, _&&_, _||_, not}
+-- Document 01, "Rebuild": the calls on the whole stripe. Each tests what it is lent, then in the order of the numbers. Answer 1 is decided by the
+-- sizes, all n node records and the client's record; of pick and write also by the lengths of the blocks and the spare. After that and the client's
+-- number a call X does what `XIn` says of the phase that its client's rebuild is in. Assumes nothing.
+use mathlib.Core.Bool.{Bool, cond, _&&_, _||_, not}
 use mathlib.Core.List.{List, [], _∷_, _++_, map}
 use Prim.Native.Nat.{ℕ, zero, suc, _+_, _-_, max}
 use lib.Dec.{eqb, leb, ltb}
@@ -8,16 +10,18 @@ use lib.ListN as ListN
 use Rattle.blocks.specs.Blocks.{block, setBlock}
 use Rattle.code.specs.Decode.{NodeSet, has, setOf, size, lowest, recoveredTable, invertible}
 use Rattle.records.specs.declared.Sizes.{Sizes}
-use Rattle.records.specs.declared.Entry.{Entry}
 use Rattle.records.specs.declared.Epoch.{Epoch}
 use Rattle.records.specs.declared.Lmode.{Lmode}
 use Rattle.records.specs.declared.WriteId.{WriteId}
 use Rattle.records.specs.declared.Refusal.the-variants.{OutOfLimits, OutOfRange, OutOfPhase, Exhausted, Locked, NotHeld, TooFew, NoInverse}
 use Rattle.records.specs.Sizes.{sizesWithin, isClient}
-use Rattle.records.specs.Entries.{isRecent, isIn, isOldIn}
-use Rattle.records.specs.Node.{Node, epochLimit, isNorm, isRecons, isInit, isL0, isL1, heldBy, heldAtL1, lockedBy, weakenedBy, unlocked, expiredFor, givenBack, written, settled}
-use Rattle.records.specs.Client.{Client, Rebuild, NoRebuild, Locking, Picking, Writing, Settling, Unlocking, hasRebuild, withRebuild, clientWithin}
-use Rattle.machine.specs.Stripe.{Answer, Accepted, Rebuilt, Refused, Outcome, answered, refused, guard, Whole, nodeAt, setAt, blocksFit, nodesFit, everyOf, someOf}
+use Rattle.records.specs.Entries.{Entry, isRecent, isIn, isOldIn}
+use Rattle.records.specs.Node.{Node, epochLimit, isNorm, isRecons, isInit, isL0, isL1, heldBy, heldAtL1, lockedBy, weakenedBy, unlocked, expiredFor}
+use Rattle.records.specs.Node.{givenBack, written, settled}
+use Rattle.records.specs.Client.{Rebuild, NoRebuild, Locking, Picking, Writing, Settling, Unlocking, hasRebuild, withRebuild}
+use Rattle.records.specs.Client.{lockedRebuild, nextRebuild, clientWithin}
+use Rattle.machine.specs.Stripe.{Accepted, Rebuilt, Refused, Outcome, answered, refused, guard, Whole, nodeAt, setAt, blocksFit, nodesFit}
+use Rattle.machine.specs.Stripe.{everyOf, someOf}
 
 -- other node records, and the client's rebuild in another phase
 abbrev pub advanced : List Node → Rebuild → Whole → Whole
@@ -36,26 +40,26 @@ outOfLimits z w = not (sizesWithin z && (nodesFit z (w .nodes) && clientWithin z
 -- "9: lock of a node at L0 or L1: nodes still held by c get their old lmode; rebuild ends"
 unfoldable pub restored : ℕ → List Lmode → List Node → List Node
 restored c [] nodes = nodes
-restored c (l ∷ old) [] = []
-restored c (l ∷ old) (x ∷ nodes) = givenBack c l x ∷ restored c old nodes
+restored c (lmode ∷ old) [] = []
+restored c (lmode ∷ old) (node ∷ nodes) = givenBack c lmode node ∷ restored c old nodes
 
 -- "the next node, 1 to n, goes from UNL or EXP to L1, held by c; its old lmode is remembered"
 unfoldable pub lockNode : Sizes → ℕ → List Lmode → Whole → Outcome Whole
 lockNode z c old w =
     let j = length old + 1 in
-    let x = nodeAt (w .nodes) j in
-    cond (isL0 (x .lmode) || isL1 (x .lmode))
+    let node = nodeAt (w .nodes) j in
+    cond (isL0 (node .lmode) || isL1 (node .lmode))
     (answered (Refused Locked) (advanced (restored c old (w .nodes)) NoRebuild w))
     (answered Accepted
-    (advanced (setAt (w .nodes) j (lockedBy c x)) (cond (leb (z .n) j) (Picking 0) (Locking (old ++ (x .lmode ∷ [])))) w))
+    (advanced (setAt (w .nodes) j (lockedBy c node)) (lockedRebuild (z .n) (node .lmode) old) w))
 
 unfoldable pub lockIn : Sizes → ℕ → Rebuild → Whole → Outcome Whole
 lockIn z c NoRebuild w = lockNode z c [] w
 lockIn z c (Locking old) w = lockNode z c old w
 lockIn z c (Picking t) w = refused OutOfPhase w
-lockIn z c (Writing x set e) w = refused OutOfPhase w
-lockIn z c (Settling x e) w = refused OutOfPhase w
-lockIn z c (Unlocking x) w = refused OutOfPhase w
+lockIn z c (Writing j set epoch) w = refused OutOfPhase w
+lockIn z c (Settling j epoch) w = refused OutOfPhase w
+lockIn z c (Unlocking j) w = refused OutOfPhase w
 
 -- "Lock c"
 unfoldable pub lock : Sizes → ℕ → Whole → Outcome Whole
@@ -63,23 +67,24 @@ lock z c w = guard (outOfLimits z w) OutOfLimits w (guard (not (isClient z c)) O
 
 -- "ids marked old at any NORM node"
 abbrev pub oldSomewhere : List Node → WriteId → Bool
-oldSomewhere nodes id = someOf (λ x. isNorm (x .opmode) && isOldIn id (x .entries)) nodes
+oldSomewhere nodes id = someOf (λ node. isNorm (node .opmode) && isOldIn id (node .entries)) nodes
 
 -- "f of a node is the set of its recent ids, without ids marked old at any NORM node"
 unfoldable pub recentIds : List Node → List Entry → List WriteId
 recentIds nodes [] = []
-recentIds nodes (e ∷ es) = cond (isRecent e && not (oldSomewhere nodes (e .id))) (e .id ∷ recentIds nodes es) (recentIds nodes es)
+recentIds nodes (entry ∷ entries) =
+    cond (isRecent entry && not (oldSomewhere nodes (entry .id))) (entry .id ∷ recentIds nodes entries) (recentIds nodes entries)
 
 abbrev pub f : List Node → ℕ → List WriteId
 f nodes j = recentIds nodes (nodeAt nodes j .entries)
 
 unfoldable pub atPosition : ℕ → List WriteId → List WriteId
 atPosition i [] = []
-atPosition i (x ∷ ids) = cond (eqb (x .position) i) (x ∷ atPosition i ids) (atPosition i ids)
+atPosition i (id ∷ ids) = cond (eqb (id .position) i) (id ∷ atPosition i ids) (atPosition i ids)
 
 -- the same set of ids
 abbrev pub sameIds : List WriteId → List WriteId → Bool
-sameIds a b = everyOf (λ x. isIn x b) a && everyOf (λ x. isIn x a) b
+sameIds a b = everyOf (λ id. isIn id b) a && everyOf (λ id. isIn id a) b
 
 -- "all redundant members have equal f; each data member's f equals the ids of its position in each redundant member's f":
 -- node j beside the redundant member r
@@ -97,24 +102,24 @@ besides z nodes r = setOf (λ j. isNorm (nodeAt nodes j .opmode) && fits z nodes
 unfoldable pub largest : Sizes → List Node → ℕ → NodeSet
 largest z nodes zero = allData z nodes
 largest z nodes (suc d) =
-    let s = largest z nodes d in
+    let set = largest z nodes d in
     let r = z .k + suc d in
-    cond (isNorm (nodeAt nodes r .opmode) && ltb (size s) (size (besides z nodes r))) (besides z nodes r) s
+    cond (isNorm (nodeAt nodes r .opmode) && ltb (size set) (size (besides z nodes r))) (besides z nodes r) set
 
 abbrev pub someRecons : List Node → Bool
-someRecons nodes = someOf (λ x. isRecons (x .opmode)) nodes
+someRecons nodes = someOf (λ node. isRecons (node .opmode)) nodes
 
 -- "the union of all rsets without INIT nodes, plus every RECONS node"
 abbrev pub resumed : List Node → NodeSet
 resumed nodes =
-    setOf (λ j. isRecons (nodeAt nodes j .opmode) || (not (isInit (nodeAt nodes j .opmode)) && someOf (λ x. has (x .rset) j) nodes))
+    setOf (λ j. isRecons (nodeAt nodes j .opmode) || (not (isInit (nodeAt nodes j .opmode)) && someOf (λ node. has (node .rset) j) nodes))
 
 abbrev pub pickedSet : Sizes → List Node → NodeSet
 pickedSet z nodes = cond (someRecons nodes) (resumed nodes) (largest z nodes (z .n - z .k))
 
 unfoldable pub countInit : List Node → ℕ
 countInit [] = 0
-countInit (x ∷ nodes) = cond (isInit (x .opmode)) (suc (countInit nodes)) (countInit nodes)
+countInit (node ∷ nodes) = cond (isInit (node .opmode)) (suc (countInit nodes)) (countInit nodes)
 
 -- "it needs k members. Otherwise the set needs k + slack members, slack = t_d less the number of INIT nodes, at least 0"
 abbrev pub neededSize : Sizes → List Node → ℕ
@@ -122,14 +127,14 @@ neededSize z nodes = cond (someRecons nodes) (z .k) (z .k + (z .failures - count
 
 unfoldable pub largestEpoch : List Node → ℕ
 largestEpoch [] = 0
-largestEpoch (x ∷ nodes) = max (x .epoch .0) (largestEpoch nodes)
+largestEpoch (node ∷ nodes) = max (node .epoch .0) (largestEpoch nodes)
 
 -- "The spare becomes the codeword decoded from the set; E = largest epoch."
 abbrev pub picked : Sizes → NodeSet → ℕ → Whole → Whole
-picked z set e w =
+picked z set epoch w =
     record {
       nodes = w .nodes;
-      client = withRebuild (Writing 1 set (record { 0 = e })) (w .client);
+      client = withRebuild (Writing 1 set (record { 0 = epoch })) (w .client);
       blocks = w .blocks;
       spare = recoveredTable (z .k) (z .n) (z .b) set (w .blocks);
     }
@@ -137,12 +142,12 @@ picked z set e w =
 unfoldable pub pickNow : Sizes → ℕ → Whole → Outcome Whole
 pickNow z c w =
     let set = pickedSet z (w .nodes) in
-    let e = largestEpoch (w .nodes) in
-    guard (leb epochLimit e) Exhausted w
+    let epoch = largestEpoch (w .nodes) in
+    guard (leb epochLimit epoch) Exhausted w
     (holding (everyOf (heldAtL1 c) (w .nodes)) c w
     (guard (ltb (size set) (neededSize z (w .nodes))) (TooFew (size set)) w
     (guard (not (invertible (z .k) (lowest set))) NoInverse w
-    (answered Accepted (picked z set e w)))))
+    (answered Accepted (picked z set epoch w)))))
 
 -- "weaken or pick while a weakened node isn't tightened": 3
 unfoldable pub pickIn : Sizes → ℕ → Rebuild → Whole → Outcome Whole
@@ -150,9 +155,9 @@ pickIn z c NoRebuild w = refused OutOfPhase w
 pickIn z c (Locking old) w = refused OutOfPhase w
 pickIn z c (Picking zero) w = pickNow z c w
 pickIn z c (Picking (suc t)) w = refused OutOfPhase w
-pickIn z c (Writing x set e) w = refused OutOfPhase w
-pickIn z c (Settling x e) w = refused OutOfPhase w
-pickIn z c (Unlocking x) w = refused OutOfPhase w
+pickIn z c (Writing j set epoch) w = refused OutOfPhase w
+pickIn z c (Settling j epoch) w = refused OutOfPhase w
+pickIn z c (Unlocking j) w = refused OutOfPhase w
 
 -- "Pick c: needs all n held by c at L1."
 unfoldable pub pick : Sizes → ℕ → Whole → Outcome Whole
@@ -172,9 +177,9 @@ weakenIn z c (Picking zero) w =
     (holding (everyOf (heldBy c) (w .nodes)) c w
     (answered Accepted (advanced (weakened z c (w .nodes)) (Picking (z .k + 1)) w)))
 weakenIn z c (Picking (suc t)) w = refused OutOfPhase w
-weakenIn z c (Writing x set e) w = refused OutOfPhase w
-weakenIn z c (Settling x e) w = refused OutOfPhase w
-weakenIn z c (Unlocking x) w = refused OutOfPhase w
+weakenIn z c (Writing j set epoch) w = refused OutOfPhase w
+weakenIn z c (Settling j epoch) w = refused OutOfPhase w
+weakenIn z c (Unlocking j) w = refused OutOfPhase w
 
 -- "Weaken c: needs all n held, none RECONS, and every node weakened before tightened again"
 unfoldable pub weaken : Sizes → ℕ → Whole → Outcome Whole
@@ -186,12 +191,12 @@ tightenIn z c (Locking old) w = refused OutOfPhase w
 tightenIn z c (Picking zero) w = refused OutOfPhase w
 tightenIn z c (Picking (suc t)) w =
     let j = suc t in
-    let x = nodeAt (w .nodes) j in
-    holding (heldBy c x) c w
-    (answered Accepted (advanced (setAt (w .nodes) j (lockedBy c x)) (cond (leb (z .n) j) (Picking 0) (Picking (j + 1))) w))
-tightenIn z c (Writing x set e) w = refused OutOfPhase w
-tightenIn z c (Settling x e) w = refused OutOfPhase w
-tightenIn z c (Unlocking x) w = refused OutOfPhase w
+    let node = nodeAt (w .nodes) j in
+    holding (heldBy c node) c w
+    (answered Accepted (advanced (setAt (w .nodes) j (lockedBy c node)) (nextRebuild (z .n) (Picking j)) w))
+tightenIn z c (Writing j set epoch) w = refused OutOfPhase w
+tightenIn z c (Settling j epoch) w = refused OutOfPhase w
+tightenIn z c (Unlocking j) w = refused OutOfPhase w
 
 -- "Tighten c: the lowest redundant node not tightened since the weaken goes to L1; with none left it is out of phase."
 unfoldable pub tighten : Sizes → ℕ → Whole → Outcome Whole
@@ -199,10 +204,10 @@ tighten z c w = guard (outOfLimits z w) OutOfLimits w (guard (not (isClient z c)
 
 -- "block from the spare, RECONS, epoch E, rset = the set"
 abbrev pub writtenAt : Sizes → ℕ → NodeSet → Epoch → Whole → Whole
-writtenAt z j set e w =
+writtenAt z j set epoch w =
     record {
-      nodes = setAt (w .nodes) j (written e set (nodeAt (w .nodes) j));
-      client = withRebuild (cond (leb (z .n) j) (Settling 1 e) (Writing (j + 1) set e)) (w .client);
+      nodes = setAt (w .nodes) j (written epoch set (nodeAt (w .nodes) j));
+      client = withRebuild (nextRebuild (z .n) (Writing j set epoch)) (w .client);
       blocks = setBlock (z .b) j (block (z .b) j (w .spare)) (w .blocks);
       spare = w .spare;
     }
@@ -211,9 +216,9 @@ unfoldable pub writeIn : Sizes → ℕ → Rebuild → Whole → Outcome Whole
 writeIn z c NoRebuild w = refused OutOfPhase w
 writeIn z c (Locking old) w = refused OutOfPhase w
 writeIn z c (Picking t) w = refused OutOfPhase w
-writeIn z c (Writing j set e) w = holding (heldBy c (nodeAt (w .nodes) j)) c w (answered Accepted (writtenAt z j set e w))
-writeIn z c (Settling x e) w = refused OutOfPhase w
-writeIn z c (Unlocking x) w = refused OutOfPhase w
+writeIn z c (Writing j set epoch) w = holding (heldBy c (nodeAt (w .nodes) j)) c w (answered Accepted (writtenAt z j set epoch w))
+writeIn z c (Settling j epoch) w = refused OutOfPhase w
+writeIn z c (Unlocking j) w = refused OutOfPhase w
 
 -- "Write c, 1 to n"
 unfoldable pub write : Sizes → ℕ → Whole → Outcome Whole
@@ -225,11 +230,11 @@ unfoldable pub settleIn : Sizes → ℕ → Rebuild → Whole → Outcome Whole
 settleIn z c NoRebuild w = refused OutOfPhase w
 settleIn z c (Locking old) w = refused OutOfPhase w
 settleIn z c (Picking t) w = refused OutOfPhase w
-settleIn z c (Writing x set e) w = refused OutOfPhase w
-settleIn z c (Settling j e) w = holding (everyOf (heldBy c) (w .nodes)) c w
+settleIn z c (Writing j set epoch) w = refused OutOfPhase w
+settleIn z c (Settling j epoch) w = holding (everyOf (heldBy c) (w .nodes)) c w
     (answered (cond (leb (z .n) j) Rebuilt Accepted)
-    (advanced (setAt (w .nodes) j (settled e (nodeAt (w .nodes) j))) (cond (leb (z .n) j) (Unlocking 1) (Settling (j + 1) e)) w))
-settleIn z c (Unlocking x) w = refused OutOfPhase w
+    (advanced (setAt (w .nodes) j (settled epoch (nodeAt (w .nodes) j))) (nextRebuild (z .n) (Settling j epoch)) w))
+settleIn z c (Unlocking j) w = refused OutOfPhase w
 
 -- "Settle c, 1 to n, after all writes: epoch E+1, entries cleared, rset cleared, NORM, still held. The nth settle finishes the rebuild."
 -- "A needed node is the call's own; for pick, weaken and settle, all n."
@@ -240,12 +245,12 @@ unfoldable pub unlockIn : Sizes → ℕ → Rebuild → Whole → Outcome Whole
 unlockIn z c NoRebuild w = refused OutOfPhase w
 unlockIn z c (Locking old) w = refused OutOfPhase w
 unlockIn z c (Picking t) w = refused OutOfPhase w
-unlockIn z c (Writing x set e) w = refused OutOfPhase w
-unlockIn z c (Settling x e) w = refused OutOfPhase w
+unlockIn z c (Writing j set epoch) w = refused OutOfPhase w
+unlockIn z c (Settling j epoch) w = refused OutOfPhase w
 unlockIn z c (Unlocking j) w =
-    let x = nodeAt (w .nodes) j in
-    holding (heldBy c x) c w
-    (answered Accepted (advanced (setAt (w .nodes) j (unlocked x)) (cond (leb (z .n) j) NoRebuild (Unlocking (j + 1))) w))
+    let node = nodeAt (w .nodes) j in
+    holding (heldBy c node) c w
+    (answered Accepted (advanced (setAt (w .nodes) j (unlocked node)) (nextRebuild (z .n) (Unlocking j)) w))
 
 -- "Unlock c, 1 to n: UNL; the nth ends the rebuild."
 unfoldable pub unlock : Sizes → ℕ → Whole → Outcome Whole

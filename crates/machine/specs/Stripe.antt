@@ -1,12 +1,12 @@
 -- Document 01, "Records" and "Numbers of the answers": a stripe, what a call is lent of it, and answers. Assumes nothing.
-use mathlib.Core.Bool.{Bool, true, false, cond, _&&_, _||_, not}
-use mathlib.Core.List.{List, [], _∷_, map}
+use mathlib.Core.Bool.{Bool, true, false, cond, _&&_, _||_}
+use mathlib.Core.List.{List, [], _∷_}
 use Prim.Native.Nat.{ℕ, zero, suc, _*_}
-use lib.Dec.{eqb, leb}
+use lib.Dec.{eqb}
 use lib.ListN.{length, getD, set, replicate}
 use Rattle.records.specs.declared.Sizes.{Sizes}
 use Rattle.records.specs.declared.Refusal.{Refusal}
-use Rattle.records.specs.Sizes.{numberOf}
+use Rattle.records.specs.Refusals.{numberOf}
 use Rattle.records.specs.Node.{Node, freshNode, failedNode, nodeWithin}
 use Rattle.records.specs.Client.{Client, freshClient}
 
@@ -29,10 +29,10 @@ fresh z spare differences =
       differences = differences;
     }
 
--- element j of a list, j from 1; outside the list d
+-- element j of a list, j from 1; outside the list a default
 unfoldable pub elementAt : {A : Type 0} → A → List A → ℕ → A
-elementAt d l zero = d
-elementAt d l (suc j) = getD l j d
+elementAt default list zero = default
+elementAt default list (suc j) = getD list j default
 
 -- a node that is not there counts as failed, a client as fresh
 abbrev pub nodeAt : List Node → ℕ → Node
@@ -43,8 +43,8 @@ clientAt clients c = elementAt freshClient clients c
 
 -- the list with another element j
 unfoldable pub setAt : {A : Type 0} → List A → ℕ → A → List A
-setAt l zero x = l
-setAt l (suc j) x = set l j x
+setAt list zero x = list
+setAt list (suc j) x = set list j x
 
 -- what a call is answered; the first lines are the accepted ones
 pub data Answer : Type 0 where
@@ -107,7 +107,13 @@ atNode j c s = record { node = nodeAt (s .nodes) j; client = clientAt (s .client
 
 abbrev pub putNode : ℕ → ℕ → Local → Stripe → Stripe
 putNode j c l s =
-    record { nodes = setAt (s .nodes) j (l .node); clients = setAt (s .clients) c (l .client); blocks = l .blocks; spare = s .spare; differences = l .differences }
+    record {
+      nodes = setAt (s .nodes) j (l .node);
+      clients = setAt (s .clients) c (l .client);
+      blocks = l .blocks;
+      spare = s .spare;
+      differences = l .differences;
+    }
 
 abbrev pub onNode : ℕ → ℕ → (Local → Outcome Local) → Stripe → Outcome Stripe
 onNode j c call s = let o = call (atNode j c s) in answered (o .answer) (putNode j c (o .after) s)
@@ -124,19 +130,19 @@ onWhole c call s = let o = call (whole c s) in answered (o .answer) (putWhole c 
 
 -- "buffer length": n blocks; B bytes per client
 abbrev pub blocksFit : Sizes → List ℕ → Bool
-blocksFit z t = eqb (length t) (z .n * z .b)
+blocksFit z table = eqb (length table) (z .n * z .b)
 
 abbrev pub differencesFit : Sizes → List ℕ → Bool
-differencesFit z t = eqb (length t) (z .m * z .b)
+differencesFit z table = eqb (length table) (z .m * z .b)
 
 -- p holds of each element; of some element
 unfoldable pub everyOf : {A : Type 0} → (A → Bool) → List A → Bool
 everyOf p [] = true
-everyOf p (x ∷ l) = p x && everyOf p l
+everyOf p (x ∷ list) = p x && everyOf p list
 
 unfoldable pub someOf : {A : Type 0} → (A → Bool) → List A → Bool
 someOf p [] = false
-someOf p (x ∷ l) = p x || someOf p l
+someOf p (x ∷ list) = p x || someOf p list
 
 abbrev pub nodesFit : Sizes → List Node → Bool
 nodesFit z nodes = eqb (length nodes) (z .n) && everyOf (nodeWithin z) nodes

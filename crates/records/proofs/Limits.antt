@@ -1,18 +1,15 @@
 -- The limits of a record's parts, by the tests of the code. Assumes nothing.
-use mathlib.Core.Path.{_≡_, refl, sym, ap, _∙_}
+use mathlib.Core.Path.{_≡_, refl}
 use mathlib.Core.Bool.{Bool, true, false, _&&_, _||_, not, and-assoc}
-use mathlib.Core.List.{List, [], _∷_}
+use mathlib.Core.List.{List}
 use mathlib.Core.Option.{Option, none, some}
-use Prim.Native.Nat.{ℕ, zero, suc, _+_, _≤_, _<_}
-use native.Mathlib.Numerals.{add-one}
+use Prim.Native.Nat.{ℕ, _≤_, _<_}
 use native.Mathlib.Omega.{arith}
 use lib.Dec.{leb}
 use borrow.Author.Tests.{le-leb, leb-true, ltb-true}
-use lib.ListN.{length, getD, drop, drop-of-length-le}
-use lib.Seq.{drop-cons}
+use lib.ListN.{length}
 use Rattle.gf256.proofs.Computed.{and-left, and-right}
 use Rattle.code.specs.Code.{codeSizes}
-use Rattle.code.specs.Decode.{NodeSet}
 use Rattle.code.proofs.Sizes.{sizes-of}
 use Rattle.records.specs.declared.Sizes.{Sizes}
 use Rattle.records.specs.declared.Lmode.{Lmode}
@@ -21,7 +18,7 @@ use Rattle.records.specs.declared.Holder.the-variants as Holder
 use Rattle.records.specs.declared.WriteId.{WriteId}
 use Rattle.records.specs.declared.NodeRecord.{NodeRecord}
 use Rattle.records.specs.Sizes.{sizesWithin, isClient}
-use Rattle.records.specs.Node.{isL0, isL1, holderWithin, setWithin, nodeWithin}
+use Rattle.records.specs.Node.{isL0, isL1, holderWithin, nodeWithin}
 use Rattle.records.specs.Client.{Client, Write, finishedLimit, handWithin, rebuildWithin, idsWithin, clientWithin}
 use Rattle.records.specs.ClientSteps.{listsWithin}
 use Rattle.records.specs.View.{entriesOf, nodeOf}
@@ -39,29 +36,6 @@ client-within z Unl c = refl
 client-within z L0 c = refl
 client-within z L1 c = refl
 client-within z Exp c = refl
-
--- ---- a loop over the places of the nodes past n: s is within where it has no place from j on
-
-pub set-from : (n : ℕ) (s : NodeSet) → setWithin n s ≡ setWithin 0 (drop n s)
-unfolding setWithin
-set-from zero s = refl
-set-from (suc n) [] = refl
-set-from (suc n) (b ∷ s) = set-from n s
-
-module _ (s : NodeSet) (j : ℕ) {v : Bool} (q : v ≡ setWithin 0 (drop j s)) where
-  place : j < length s → v ≡ (not (getD s j false) && setWithin 0 (drop (j + 1) s))
-  unfolding setWithin
-  place h = q ∙ rw (add-one j, drop-cons s j false h)
-
-  pub set-on : j < length s → getD s j false ≡ false → v ≡ setWithin 0 (drop (j + 1) s)
-  set-on h t = place h ∙ rw t
-
-  pub set-hit : j < length s → getD s j false ≡ true → false ≡ v
-  set-hit h t = sym (place h ∙ rw t)
-
-  pub set-end : length s ≤ j → true ≡ v
-  unfolding setWithin
-  set-end h = sym (q ∙ ap (setWithin 0) (drop-of-length-le s h))
 
 -- ---- a client
 

@@ -14,7 +14,7 @@ use Rattle.blocks.specs.Blocks.{listOf}
 use Rattle.blocks.proofs.Tables.{length-listOf, listOf-cong}
 use Rattle.records.specs.declared.Sizes.{Sizes}
 use Rattle.records.specs.declared.WriteId.{WriteId}
-use Rattle.records.specs.declared.Entry.{Entry}
+use Rattle.records.specs.declared.Entry as Declared
 use Rattle.records.specs.declared.Ids.{Ids}
 use Rattle.records.specs.declared.Entries.{Entries}
 use Rattle.records.specs.declared.Previous.{Previous}
@@ -25,11 +25,11 @@ use Rattle.records.specs.declared.node_entries.EntryTest.{EntryTest}
 use Rattle.records.specs.declared.node_entries.EntryTest.the-variants as EntryTest
 use Rattle.records.specs.declared.node_entries.EntryChange.{EntryChange}
 use Rattle.records.specs.declared.node_entries.EntryChange.the-variants as EntryChange
-use Rattle.records.specs.Entries.{isRecent, isIn, isListed, isRecentIn, isOldIn, lastRecent, lastRecentAfter, newEntry, aged, discard, markOld, someDue}
+use Rattle.records.specs.Entries.{Entry, isRecent, isIn, isListed, isRecentIn, isOldIn, lastRecent, lastRecentAfter, aged, discard, markOld, someDue}
 use Rattle.records.specs.Node.{idWithin, entriesWithin}
 use Rattle.records.specs.Client.{idsWithin}
 use Rattle.records.specs.Lists.{idPasses, someIdPasses, passes, somePasses, isOutside, olderEntry, isKept, offered, changed}
-use Rattle.records.specs.View.{blankId, idsOf, entriesOf}
+use Rattle.records.specs.View.{blankId, idsOf, entryOf, blankEntry, entriesOf}
 
 pub listOf-more : {A : Type 0} (i : ℕ) (at : ℕ → A) → listOf (i + 1) at ≡ listOf i at ++ (at i ∷ [])
 unfolding listOf
@@ -40,7 +40,7 @@ pub ids-count : (s : Ids) → length (idsOf s) ≡ s .count
 ids-count s = length-listOf (s .count) (λ i. getD (s .items) i blankId)
 
 pub entries-count : (s : Entries) → length (entriesOf s) ≡ s .count
-entries-count s = length-listOf (s .count) (λ i. getD (s .items) i (newEntry blankId))
+entries-count s = length-listOf (s .count) (λ i. entryOf (getD (s .items) i blankEntry))
 
 -- what owning an array tells of its list's length is told of the elements' machine values
 pub length-array : {A B : Type 0} (f : A → B) (l : List A) (n : ℕ) → length (map f l) ≡ n → length l ≡ n
@@ -53,15 +53,15 @@ module _ {A B : Type 0} (f : A → B) (l : List A) (i n : ℕ) (e : length (map 
   pub past-array : n ≤ i → length l ≤ i
   past-array h = omega (arith, length-array f l n e)
 
--- a store after the last of the n
-pub listOf-push : {A : Type 0} (l : List A) (n : ℕ) (x d : A) → n < length l
-    → listOf (n + 1) (λ i. getD (set l n x) i d) ≡ listOf n (λ i. getD l i d) ++ (x ∷ [])
-listOf-push l n x d h =
-    listOf-more n (λ i. getD (set l n x) i d)
-    ∙ ap₂ (λ a b. a ++ (b ∷ [])) (listOf-cong n (λ i. getD (set l n x) i d) (λ i. getD l i d) other) (getD-set-same l n x d h)
+-- a store after the last of the n, where f is how an item is seen
+pub listOf-push : {A B : Type 0} (f : A → B) (l : List A) (n : ℕ) (x d : A) → n < length l
+    → listOf (n + 1) (λ i. f (getD (set l n x) i d)) ≡ listOf n (λ i. f (getD l i d)) ++ (f x ∷ [])
+listOf-push f l n x d h =
+    listOf-more n (λ i. f (getD (set l n x) i d))
+    ∙ ap₂ (λ a b. a ++ (b ∷ [])) (listOf-cong n (λ i. f (getD (set l n x) i d)) (λ i. f (getD l i d)) other) (ap f (getD-set-same l n x d h))
   where
-    other : (i : ℕ) → i < n → getD (set l n x) i d ≡ getD l i d
-    other i below = getD-set-other l n i x d (λ e. omega arith)
+    other : (i : ℕ) → i < n → f (getD (set l n x) i d) ≡ f (getD l i d)
+    other i below = ap f (getD-set-other l n i x d (λ e. omega arith))
 
 -- ---- a loop that looks for an element: p the test of an element, some that of a list
 
@@ -211,30 +211,30 @@ aged-last [] e = refl
 aged-last (x ∷ es) e = ap (λ l. olderEntry x ∷ l) (aged-last es e)
 
 -- the first i of n entries are older, the others as they were
-pub record Aged (d : Entry) (old now : List Entry) (i n : ℕ) : Type 0 where
+pub record Aged (old now : List Declared.Entry) (i n : ℕ) : Type 0 where
   pub within : i ≤ n
   pub room : n ≤ length now
-  pub is : listOf i (λ p. getD now p d) ≡ aged (listOf i (λ p. getD old p d))
-  pub others : (p : ℕ) → i ≤ p → getD now p d ≡ getD old p d
+  pub is : listOf i (λ p. entryOf (getD now p blankEntry)) ≡ aged (listOf i (λ p. entryOf (getD old p blankEntry)))
+  pub others : (p : ℕ) → i ≤ p → getD now p blankEntry ≡ getD old p blankEntry
 
-module _ {d : Entry} {old : List Entry} {n : ℕ} where
-  pub age-start : n ≤ length old → Aged d old old 0 n
+module _ {old : List Declared.Entry} {n : ℕ} where
+  pub age-start : n ≤ length old → Aged old old 0 n
   unfolding listOf aged
   age-start h = record { within = omega arith; room = h; is = refl; others = λ p l. refl }
 
-  module _ {now : List Entry} {i : ℕ} (q : Aged d old now i n) where
-    pub age-on : {r : Entry} → i < n → r ≡ olderEntry (getD now i d) → Aged d old (set now i r) (i + 1) n
+  module _ {now : List Declared.Entry} {i : ℕ} (q : Aged old now i n) where
+    pub age-on : {r : Declared.Entry} → i < n → entryOf r ≡ olderEntry (entryOf (getD now i blankEntry)) → Aged old (set now i r) (i + 1) n
     age-on {r} h e = record {
       within = omega arith;
       room = omega (arith, length-set now i r, q .room);
       is =
-          listOf-push now i r d (omega (arith, q .room))
-          ∙ ap₂ (λ l x. l ++ (x ∷ [])) (q .is) (e ∙ ap olderEntry (q .others i (omega arith)))
-          ∙ sym (ap aged (listOf-more i (λ p. getD old p d)) ∙ aged-last (listOf i (λ p. getD old p d)) (getD old i d));
-      others = λ p l. getD-set-other now i p r d (λ z. omega arith) ∙ q .others p (omega arith);
+          listOf-push entryOf now i r blankEntry (omega (arith, q .room))
+          ∙ ap₂ (λ l x. l ++ (x ∷ [])) (q .is) (e ∙ ap (λ x. olderEntry (entryOf x)) (q .others i (omega arith)))
+          ∙ sym (ap aged (listOf-more i (λ p. entryOf (getD old p blankEntry))) ∙ aged-last (listOf i (λ p. entryOf (getD old p blankEntry))) (entryOf (getD old i blankEntry)));
+      others = λ p l. getD-set-other now i p r blankEntry (λ z. omega arith) ∙ q .others p (omega arith);
     }
 
-    pub age-end : n ≤ i → listOf n (λ p. getD now p d) ≡ aged (listOf n (λ p. getD old p d))
+    pub age-end : n ≤ i → listOf n (λ p. entryOf (getD now p blankEntry)) ≡ aged (listOf n (λ p. entryOf (getD old p blankEntry)))
     age-end h = let e : i ≡ n = omega arith in rw e at (q .is)
 
 -- ---- a loop that looks for the last recent id, from the end

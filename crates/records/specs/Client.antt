@@ -92,6 +92,36 @@ hasRebuild (Writing x set e) = true
 hasRebuild (Settling x e) = true
 hasRebuild (Unlocking x) = true
 
+-- the old lmodes of the nodes locked so far
+abbrev pub remembered : Rebuild → List Lmode
+remembered NoRebuild = []
+remembered (Locking old) = old
+remembered (Picking t) = []
+remembered (Writing x set e) = []
+remembered (Settling x e) = []
+remembered (Unlocking x) = []
+
+-- "The phases are n locks; .. then n writes, n settles, n unlocks": the node that a rebuild is at; 0 if it is at none
+abbrev pub nextNode : Rebuild → ℕ
+nextNode NoRebuild = 1
+nextNode (Locking old) = length old + 1
+nextNode (Picking t) = t
+nextNode (Writing x set e) = x
+nextNode (Settling x e) = x
+nextNode (Unlocking x) = x
+
+-- the phase after the lock of the next node, whose lmode was l; after a tighten, a write, a settle or an unlock of its node
+abbrev pub lockedRebuild : ℕ → Lmode → List Lmode → Rebuild
+lockedRebuild n l old = cond (leb n (length old + 1)) (Picking 0) (Locking (old ++ (l ∷ [])))
+
+abbrev pub nextRebuild : ℕ → Rebuild → Rebuild
+nextRebuild n NoRebuild = NoRebuild
+nextRebuild n (Locking old) = Locking old
+nextRebuild n (Picking t) = cond (leb n t) (Picking 0) (Picking (t + 1))
+nextRebuild n (Writing x set e) = cond (leb n x) (Settling 1 e) (Writing (x + 1) set e)
+nextRebuild n (Settling x e) = cond (leb n x) (Unlocking 1) (Settling (x + 1) e)
+nextRebuild n (Unlocking x) = cond (leb n x) NoRebuild (Unlocking (x + 1))
+
 -- "record .. outside the limits" (docs/DECISIONS.md)
 unfoldable pub idsWithin : Sizes → List WriteId → Bool
 idsWithin z [] = true

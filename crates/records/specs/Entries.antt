@@ -5,11 +5,16 @@ use Prim.Native.Nat.{ℕ, _+_}
 use lib.Dec.{eqb, leb, ltb}
 use Rattle.records.specs.declared.WriteId.{WriteId}
 use Rattle.records.specs.declared.Age.{Age}
-use Rattle.records.specs.declared.Entry.{Entry}
 use Rattle.records.specs.declared.Mark.{Mark}
 use Rattle.records.specs.declared.Mark.the-variants.{Recent, Old}
 use Rattle.records.specs.declared.Previous.{Previous}
 use Rattle.records.specs.declared.Previous.the-variants.{Nothing, Id}
+
+-- "up to 16 entries, each a write id marked recent or old"; "An entry's age"
+pub record Entry : Type 0 where
+  pub id : WriteId
+  pub mark : Mark
+  pub age : Age
 
 -- "A write id is client, position and write number"
 unfoldable pub sameId : WriteId → WriteId → Bool

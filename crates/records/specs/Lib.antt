@@ -1,4 +1,5 @@
 pub mod Sizes
+pub mod Refusals
 pub mod Entries
 pub mod Node
 pub mod Client

@@ -4,7 +4,6 @@ use mathlib.Core.List.{List, [], _∷_}
 use lib.Dec.{leb}
 use Rattle.records.specs.declared.Sizes.{Sizes}
 use Rattle.records.specs.declared.WriteId.{WriteId}
-use Rattle.records.specs.declared.Entry.{Entry}
 use Rattle.records.specs.declared.Mark.the-variants.{Recent, Old}
 use Rattle.records.specs.declared.Previous.{Previous}
 use Rattle.records.specs.declared.Previous.the-variants.{Id}
@@ -14,7 +13,7 @@ use Rattle.records.specs.declared.node_entries.EntryTest.{EntryTest}
 use Rattle.records.specs.declared.node_entries.EntryTest.the-variants.{Of, RecentOf, OldOf, Due}
 use Rattle.records.specs.declared.node_entries.EntryChange.{EntryChange}
 use Rattle.records.specs.declared.node_entries.EntryChange.the-variants.{Mark, Discard}
-use Rattle.records.specs.Entries.{sameId, isRecent, isIn, isListed, isRecentIn, isOldIn, older, discard, markOld, someDue}
+use Rattle.records.specs.Entries.{Entry, sameId, isRecent, isIn, isListed, isRecentIn, isOldIn, older, discard, markOld, someDue}
 use Rattle.records.specs.Node.{idWithin}
 use Rattle.records.specs.Client.{idsWithin}
 

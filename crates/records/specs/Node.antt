@@ -1,13 +1,13 @@
 -- Document 01, "Records": a node's record, and what the calls do to one record. Assumes nothing.
 use mathlib.Core.Bool.{Bool, true, false, cond, _&&_, _||_, not}
 use mathlib.Core.List.{List, [], _∷_}
-use Prim.Native.Nat.{ℕ, zero, suc, _+_}
+use Prim.Native.Nat.{ℕ, _+_}
 use lib.Dec.{eqb, leb, ltb}
 use lib.ListN.{length}
 use Rattle.code.specs.Decode.{NodeSet, noNodes}
+unfoldable pub use Rattle.code.specs.Decode.{setWithin}
 use Rattle.records.specs.declared.Sizes.{Sizes}
 use Rattle.records.specs.declared.WriteId.{WriteId}
-use Rattle.records.specs.declared.Entry.{Entry}
 use Rattle.records.specs.declared.Epoch.{Epoch}
 use Rattle.records.specs.declared.Opmode.{Opmode}
 use Rattle.records.specs.declared.Opmode.the-variants.{Norm, Recons, Init}
@@ -16,7 +16,7 @@ use Rattle.records.specs.declared.Lmode.the-variants.{Unl, L0, L1, Exp}
 use Rattle.records.specs.declared.Holder.{Holder}
 use Rattle.records.specs.declared.Holder.the-variants.{Nobody, Client}
 use Rattle.records.specs.Sizes.{isClient, isPosition}
-use Rattle.records.specs.Entries.{enter, someDue}
+use Rattle.records.specs.Entries.{Entry, enter, someDue}
 
 -- "A node has: block; opmode ..; lmode ..; holder ..; epoch; a set of nodes rset; and up to 16 entries". The block is in the block table
 pub record Node : Type 0 where
@@ -156,12 +156,6 @@ holderWithin z L1 Nobody = false
 holderWithin z L1 (Client c) = isClient z c
 holderWithin z Exp Nobody = true
 holderWithin z Exp (Client c) = false
-
--- a set of nodes among 1 to n
-unfoldable pub setWithin : ℕ → NodeSet → Bool
-setWithin n [] = true
-setWithin zero (b ∷ s) = not b && setWithin zero s
-setWithin (suc n) (b ∷ s) = setWithin n s
 
 unfoldable pub nodeWithin : Sizes → Node → Bool
 nodeWithin z x =

@@ -2,6 +2,7 @@
 use mathlib.Core.Path.{_≡_}
 use mathlib.Core.Bool.{Bool, true, false, cond, _||_, not}
 use mathlib.Core.List.{[]}
+use Prim.Native.Nat.{ℕ}
 use lib.Dec.{leb, ltb}
 use lib.ListN.{length}
 use Rattle.code.specs.Decode.{noNodes}
@@ -18,9 +19,9 @@ use Rattle.records.specs.declared.NodeAnswer.the-variants.{Accepted, Ref
 use Rattle.records.specs.declared.CheckAnswer.{CheckAnswer}
 use Rattle.records.specs.declared.CheckAnswer.the-variants.{Init, Gc, NoChange}
 use Rattle.records.specs.declared.Refusal.{Refusal}
-use Rattle.records.specs.declared.Refusal.the-variants.{WrongMode, OldEpoch, BeforePrevious, Full, Locked}
+use Rattle.records.specs.declared.Refusal.the-variants.{OutOfPhase, WrongMode, OldEpoch, BeforePrevious, Full, Locked, NotHeld}
 use Rattle.records.specs.Entries.{isListed, isRecentIn, previousRecent}
-use Rattle.records.specs.Node.{Node, entryLimit, isFree, takesAdd, isL0, isL1}
+use Rattle.records.specs.Node.{Node, entryLimit, isRecons, isFree, takesAdd, isL0, isL1, heldBy}
 use Rattle.records.specs.View.{nodeOf}
 
 -- a node with nothing: fresh it is NORM, failed it is INIT
@@ -38,6 +39,10 @@ needing met x rest = refusing (not met) (WrongMode (x .opmode) (x .lmode)) rest
 -- "7: swap or add at a node with 16 entries"
 abbrev pub enterAnswer : Node → NodeAnswer
 enterAnswer x = refusing (leb entryLimit (length (x .entries))) Full Accepted
+
+-- "Read i: needs node i NORM and UNL"
+abbrev pub readAnswer : Node → NodeAnswer
+readAnswer x = needing (isFree x) x Accepted
 
 -- "Swap c, i, value: needs node i NORM and UNL"
 abbrev pub swapAnswer : Node → NodeAnswer
@@ -61,6 +66,14 @@ sweepAnswer x = needing (isFree x) x Accepted
 -- "9: lock of a node at L0 or L1"
 abbrev pub lockAnswer : Node → NodeAnswer
 lockAnswer x = refusing (isL0 (x .lmode) || isL1 (x .lmode)) Locked Accepted
+
+-- "10: a rebuild call after Lock meets a needed node not held by c": tighten, write, settle and unlock
+abbrev pub heldAnswer : ℕ → Node → NodeAnswer
+heldAnswer c x = refusing (not (heldBy c x)) NotHeld Accepted
+
+-- "Weaken c: needs all n held, none RECONS": "3: weaken with a RECONS node"
+abbrev pub weakenAnswer : ℕ → Node → NodeAnswer
+weakenAnswer c x = refusing (isRecons (x .opmode)) OutOfPhase (heldAnswer c x)
 
 -- "if the own id isn't recent at j .. (INIT). Else if there is no previous id, or it isn't recent there .. (GC). Else NoChange"
 abbrev pub checkAnswer : Write → Node → CheckAnswer

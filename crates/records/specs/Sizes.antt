@@ -1,11 +1,9 @@
--- Document 01, "Field and code" and "Numbers of the answers": the limits of the sizes, the ranges of numbers, the refusals. Assumes nothing.
+-- Document 01, "Field and code": the limits of the sizes, the ranges of numbers. Assumes nothing.
 use mathlib.Core.Bool.{Bool, _&&_}
 use Prim.Native.Nat.{ℕ, _-_}
 use lib.Dec.{leb, ltb}
 use Rattle.code.specs.Code.{codeSizes}
 use Rattle.records.specs.declared.Sizes.{Sizes}
-use Rattle.records.specs.declared.Refusal.{Refusal}
-use Rattle.records.specs.declared.Refusal.the-variants.{OutOfLimits, OutOfRange, OutOfPhase, WrongMode, OldEpoch, BeforePrevious, Full, Exhausted, Locked, NotHeld, TooFew, NoInverse}
 
 -- "clients m are 1 to 8; t_d, the node failures planned for, is 0 to n−k"; k, n and B as for the code
 unfoldable pub sizesWithin : Sizes → Bool
@@ -23,18 +21,3 @@ isRedundant z j = ltb (z .k) j && leb j (z .n)
 
 abbrev pub isClient : Sizes → ℕ → Bool
 isClient z c = leb 1 c && leb c (z .m)
-
--- the numbers of the table; what is returned with each is the variant's data
-abbrev pub numberOf : Refusal → ℕ
-numberOf OutOfLimits = 1
-numberOf OutOfRange = 2
-numberOf OutOfPhase = 3
-numberOf (WrongMode opmode lmode) = 4
-numberOf (OldEpoch epoch) = 5
-numberOf (BeforePrevious id) = 6
-numberOf Full = 7
-numberOf Exhausted = 8
-numberOf Locked = 9
-numberOf NotHeld = 10
-numberOf (TooFew size) = 11
-numberOf NoInverse = 12

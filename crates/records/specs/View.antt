@@ -8,8 +8,10 @@ use lib.ListN.{getD}
 use Rattle.blocks.specs.Blocks.{listOf}
 use Rattle.code.specs.declared.nodes.NodeSet.{NodeSet}
 use Rattle.code.specs.Decode.{has}
+use Rattle.code.specs.View.{nodeSetOf}
 use Rattle.records.specs.declared.WriteId.{WriteId}
-use Rattle.records.specs.declared.Entry.{Entry}
+use Rattle.records.specs.declared.Entry as Declared
+use Rattle.records.specs.declared.Mark.the-variants.{Recent}
 use Rattle.records.specs.declared.Ids.{Ids}
 use Rattle.records.specs.declared.Entries.{Entries}
 use Rattle.records.specs.declared.NodeRecord.{NodeRecord}
@@ -22,7 +24,7 @@ use Rattle.records.specs.declared.Phase.{Phase}
 use Rattle.records.specs.declared.Phase.the-variants as Phase
 use Rattle.records.specs.declared.ClientRecord.{ClientRecord}
 use Rattle.records.specs.Client as Client
-use Rattle.records.specs.Entries.{newEntry}
+use Rattle.records.specs.Entries.{Entry}
 use Rattle.records.specs.Node.{Node}
 
 abbrev pub blankId : WriteId
@@ -31,40 +33,53 @@ blankId = record { client = 0; position = 0; number = record { 0 = 0 } }
 abbrev pub idsOf : Ids → List WriteId
 idsOf s = listOf (s .count) (λ i. getD (s .items) i blankId)
 
+abbrev pub entryOf : Declared.Entry → Entry
+entryOf e = record { id = record { client = e .client; position = e .position; number = e .number }; mark = e .mark; age = e .age }
+
+abbrev pub blankEntry : Declared.Entry
+blankEntry = record { number = record { 0 = 0 }; client = 0; position = 0; mark = Recent; age = record { 0 = 0 } }
+
 abbrev pub entriesOf : Entries → List Entry
-entriesOf s = listOf (s .count) (λ i. getD (s .items) i (newEntry blankId))
+entriesOf s = listOf (s .count) (λ i. entryOf (getD (s .items) i blankEntry))
 
 abbrev pub nodeOf : NodeRecord → Node
 nodeOf x =
-    record { opmode = x .opmode; lmode = x .lmode; holder = x .holder; epoch = x .epoch; rset = x .rset .has; entries = entriesOf (x .entries) }
+    record {
+      opmode = x .opmode;
+      lmode = x .lmode;
+      holder = x .holder;
+      epoch = x .epoch;
+      rset = nodeSetOf (x .rset);
+      entries = entriesOf (x .entries);
+    }
 
-abbrev pub writeOf : Write → NodeSet → Client.Write
-writeOf w done = record { id = w .id; previous = w .previous; epoch = w .epoch; done = done .has }
+abbrev pub writeOf : Write → Client.Write
+writeOf w = record { id = w .id; previous = w .previous; epoch = w .epoch; done = nodeSetOf (w .done) }
 
-abbrev pub handOf : Hand → NodeSet → Option Client.Write
-handOf Empty done = none
-handOf (Holding w) done = some (writeOf w done)
+abbrev pub handOf : Hand → Option Client.Write
+handOf Empty = none
+handOf (Holding w) = some (writeOf w)
 
 -- of the x nodes locked so far those in `expired` were EXP, the others UNL
 abbrev pub oldLmode : Bool → Lmode
 oldLmode wasExp = cond wasExp Exp Unl
 
 abbrev pub oldLmodes : ℕ → NodeSet → List Lmode
-oldLmodes x expired = listOf x (λ i. oldLmode (has (expired .has) (suc i)))
+oldLmodes x expired = listOf x (λ i. oldLmode (has (nodeSetOf expired) (suc i)))
 
-abbrev pub rebuildOf : Phase → NodeSet → NodeSet → Client.Rebuild
-rebuildOf Phase.NoRebuild expired set = Client.NoRebuild
-rebuildOf (Phase.Locking x) expired set = Client.Locking (oldLmodes x expired)
-rebuildOf (Phase.Picking j) expired set = Client.Picking j
-rebuildOf (Phase.Writing j e) expired set = Client.Writing j (set .has) e
-rebuildOf (Phase.Settling j e) expired set = Client.Settling j e
-rebuildOf (Phase.Unlocking j) expired set = Client.Unlocking j
+abbrev pub rebuildOf : Phase → Client.Rebuild
+rebuildOf Phase.NoRebuild = Client.NoRebuild
+rebuildOf (Phase.Locking x expired) = Client.Locking (oldLmodes x expired)
+rebuildOf (Phase.Picking j) = Client.Picking j
+rebuildOf (Phase.Writing j set e) = Client.Writing j (nodeSetOf set) e
+rebuildOf (Phase.Settling j e) = Client.Settling j e
+rebuildOf (Phase.Unlocking j) = Client.Unlocking j
 
 abbrev pub clientOf : ClientRecord → Client.Client
 clientOf x =
     record {
-      hand = handOf (x .hand) (x .done);
-      rebuild = rebuildOf (x .phase) (x .expired) (x .set);
+      hand = handOf (x .hand);
+      rebuild = rebuildOf (x .phase);
       finished = idsOf (x .finished);
       moved = idsOf (x .moved);
       round = x .round;

@@ -3,14 +3,15 @@ ghost use mathlib.Core.Bool.{true, false, cond, _||_};
 ghost use mathlib.Core.Option.{none, some};
 ghost use mathlib.Core.Path.{_≡_};
 ghost use Prim.Native.Nat.{_+_, _-_, _*_, _<_, _≤_};
-ghost use lib.Dec.{leb, ltb};
-ghost use Rattle.code.specs.declared.nodes.NodeSet.{NodeSet};
+ghost use lib.Dec.{ltb};
+ghost use lib.ListN.{length};
 ghost use Rattle.code.specs.Decode.{noNodes, including, excluding};
+ghost use Rattle.code.specs.View.{nodeSetOf};
 ghost use Rattle.records.specs.Sizes.{sizesWithin};
 ghost use Rattle.records.specs.Node.{isL0, isL1};
-ghost use Rattle.records.specs.Client.{NoRebuild, Picking, Writing, writeLimit, freshClient, stopped, withHand, withRebuild, began, finishedWrite, sweptOn, hasWrite, hasRebuild, previousWithin, handWithin, rebuildWithin, clientWithin};
-ghost use Rattle.records.specs.ClientSteps.{listsWithin, locksOf, nextPhase, idleClient, nextRebuild, lockedRebuild, remembered};
-ghost use Rattle.records.specs.View.{idsOf, writeOf, handOf, rebuildOf, clientOf};
+ghost use Rattle.records.specs.Client.{NoRebuild, Picking, Writing, writeLimit, freshClient, stopped, withHand, withRebuild, began, finishedWrite, sweptOn, hasWrite, hasRebuild, remembered, nextNode, lockedRebuild, nextRebuild, previousWithin, handWithin, rebuildWithin, clientWithin};
+ghost use Rattle.records.specs.ClientSteps.{listsWithin, idleClient};
+ghost use Rattle.records.specs.View.{idsOf, writeOf, handOf, oldLmodes, rebuildOf, clientOf};
 use crate::ClientRecord;
 use crate::Epoch;
 use crate::Hand;
@@ -23,7 +24,6 @@ use crate::Sizes;
 use crate::Write;
 use crate::WriteId;
 use crate::WriteNumber;
-use crate::node::is_set_within;
 use code::NodeSet;
 
 impl Previous {
@@ -38,64 +38,105 @@ impl Previous {
 }
 
 impl Write {
+    // Done at its own position alone.
+    pub fn new(id: WriteId, previous: Previous, epoch: Epoch) -> Self
+        ensures { λ r. ⌜ writeOf r ≡ record { id = id; previous = previous; epoch = epoch; done = including (id .position) noNodes } ⌝ }
+    {
+        let done = NodeSet::none().with(id.position as usize);
+        Write {
+            id: id,
+            previous: previous,
+            epoch: epoch,
+            done: done,
+        }
+    }
+
+    // Done at other nodes.
+    fn with_done(self, done: NodeSet) -> Self
+        ensures { λ r. ⌜ writeOf r ≡ record { id = self .id; previous = self .previous; epoch = self .epoch; done = nodeSetOf done } ⌝ }
+    {
+        let mut write = self;
+        write.done = done;
+        write
+    }
+
     // A write in hand leaves room for its own id in the finished list.
-    fn is_within(self, done: NodeSet, finished: Ids, z: Sizes) -> bool
-        ensures { λ r. ⌜ r ≡ handWithin z (some (writeOf self done)) (idsOf finished) ⌝ }
+    fn is_within(self, finished: Ids, z: Sizes) -> bool
+        ensures { λ r. ⌜ r ≡ handWithin z (some (writeOf self)) (idsOf finished) ⌝ }
     {
         let id = self.id;
         let previous = self.previous;
+        let done = self.done;
         id.is_within(z)
             && (previous.is_within(z)
                 && (self.epoch.0 <= NodeRecord::EPOCHS
-                    && (is_set_within(done, z.n) && finished.count < Ids::LIMIT)))
+                    && (done.is_within(z.n) && finished.count < Ids::LIMIT)))
     }
 }
 
 impl Hand {
-    fn is_within(self, done: NodeSet, finished: Ids, z: Sizes) -> bool
-        ensures { λ r. ⌜ r ≡ handWithin z (handOf self done) (idsOf finished) ⌝ }
+    fn is_within(self, finished: Ids, z: Sizes) -> bool
+        ensures { λ r. ⌜ r ≡ handWithin z (handOf self) (idsOf finished) ⌝ }
     {
         match self {
             Hand::Empty => finished.count <= Ids::LIMIT,
-            Hand::Holding(write) => write.is_within(done, finished, z),
+            Hand::Holding(write) => write.is_within(finished, z),
         }
     }
 }
 
 impl Phase {
-    // How many nodes are locked so far.
-    fn locks(self) -> u8
-        ensures { λ r. ⌜ r ≡ locksOf self ⌝ }
+    // The node that the rebuild is at.
+    pub fn node(self) -> usize
+        ensures { λ r. ⌜ r ≡ nextNode (rebuildOf self) ⌝ }
     {
         match self {
-            Phase::NoRebuild => 0,
-            Phase::Locking(x) => x,
-            Phase::Picking(_) => 0,
-            Phase::Writing(_, _) => 0,
-            Phase::Settling(_, _) => 0,
-            Phase::Unlocking(_) => 0,
+            Phase::NoRebuild => 1,
+            Phase::Locking(x, _) => x as usize + 1,
+            Phase::Picking(j) => j as usize,
+            Phase::Writing(j, _, _) => j as usize,
+            Phase::Settling(j, _) => j as usize,
+            Phase::Unlocking(j) => j as usize,
         }
     }
 
-    // After x locks.
-    fn locked(x: u8, n: usize) -> Self
-        ensures { λ r. ⌜ r ≡ cond (leb n x) (Phase.Picking 0) (Phase.Locking x) ⌝ }
+    // After the lock of the next node, whose lmode was old, where x are locked of which those in `expired` were EXP.
+    fn locked(x: u8, expired: NodeSet, old: Lmode, n: usize) -> Self
+        requires { ⌜ ((isL0 old || isL1 old) ≡ false) × (x < 18) ⌝ }
+        ensures { λ r. ⌜ rebuildOf r ≡ lockedRebuild n old (oldLmodes x expired) ⌝ }
     {
-        if n <= x as usize {
+        let j = x as usize + 1;
+        if n <= j {
             Phase::Picking(0)
         } else {
-            Phase::Locking(x)
+            Phase::Locking(x + 1, expired.put(j, old.is_exp()))
+        }
+    }
+
+    // The same of the phase before it.
+    fn lock(self, old: Lmode, n: usize) -> Self
+        requires { ⌜ ((isL0 old || isL1 old) ≡ false) × (length (remembered (rebuildOf self)) < 18) ⌝ }
+        ensures { λ r. ⌜ rebuildOf r ≡ lockedRebuild n old (remembered (rebuildOf self)) ⌝ }
+    {
+        let nobody = NodeSet::none();
+        match self {
+            Phase::NoRebuild => Phase::locked(0, nobody, old, n),
+            Phase::Locking(x, expired) => Phase::locked(x, expired, old, n),
+            Phase::Picking(_) => Phase::locked(0, nobody, old, n),
+            Phase::Writing(_, _, _) => Phase::locked(0, nobody, old, n),
+            Phase::Settling(_, _) => Phase::locked(0, nobody, old, n),
+            Phase::Unlocking(_) => Phase::locked(0, nobody, old, n),
         }
     }
 
     // After a tighten, a write, a settle or an unlock of the phase's node.
     fn next(self, n: usize) -> Self
         requires { ⌜ n ≤ 18 ⌝ }
-        ensures { λ r. ⌜ r ≡ nextPhase n self ⌝ }
+        ensures { λ r. ⌜ rebuildOf r ≡ nextRebuild n (rebuildOf self) ⌝ }
     {
         match self {
             Phase::NoRebuild => self,
-            Phase::Locking(_) => self,
+            Phase::Locking(_, _) => self,
             Phase::Picking(j) => {
                 if n <= j as usize {
                     Phase::Picking(0)
@@ -103,11 +144,11 @@ impl Phase {
                     Phase::Picking(j + 1)
                 }
             }
-            Phase::Writing(j, e) => {
+            Phase::Writing(j, set, e) => {
                 if n <= j as usize {
                     Phase::Settling(1, e)
                 } else {
-                    Phase::Writing(j + 1, e)
+                    Phase::Writing(j + 1, set, e)
                 }
             }
             Phase::Settling(j, e) => {
@@ -127,15 +168,15 @@ impl Phase {
         }
     }
 
-    fn is_within(self, set: NodeSet, z: Sizes) -> bool
-        ensures { λ r. ⌜ ((expired : NodeSet) → r ≡ rebuildWithin z (rebuildOf self expired set)) ⌝ }
+    fn is_within(self, z: Sizes) -> bool
+        ensures { λ r. ⌜ r ≡ rebuildWithin z (rebuildOf self) ⌝ }
     {
         match self {
             Phase::NoRebuild => true,
-            Phase::Locking(x) => 1 <= x && (x as usize) < z.n,
+            Phase::Locking(x, _) => 1 <= x && (x as usize) < z.n,
             Phase::Picking(j) => j == 0 || z.is_redundant(j),
-            Phase::Writing(j, e) => z.is_node(j)
-                && (is_set_within(set, z.n) && e.0 < NodeRecord::EPOCHS),
+            Phase::Writing(j, set, e) => z.is_node(j)
+                && (set.is_within(z.n) && e.0 < NodeRecord::EPOCHS),
             Phase::Settling(j, e) => z.is_node(j) && e.0 < NodeRecord::EPOCHS,
             Phase::Unlocking(j) => z.is_node(j),
         }
@@ -162,14 +203,10 @@ impl ClientRecord {
     fn idle(next: WriteNumber) -> Self
         ensures { λ r. ⌜ clientOf r ≡ idleClient next ⌝ }
     {
-        let nobody = NodeSet::none();
         let no_ids = Ids::none();
         ClientRecord {
             hand: Hand::Empty,
-            done: nobody,
             phase: Phase::NoRebuild,
-            expired: nobody,
-            set: nobody,
             finished: no_ids,
             moved: no_ids,
             round: 0,
@@ -191,11 +228,9 @@ impl ClientRecord {
         ensures { λ r. ⌜ r ≡ clientWithin z (clientOf self) ⌝ }
     {
         let hand = self.hand;
-        let done = self.done;
         let phase = self.phase;
-        let set = self.set;
         let finished = self.finished;
-        hand.is_within(done, finished, z) && (phase.is_within(set, z) && self.are_lists_within(z))
+        hand.is_within(finished, z) && (phase.is_within(z) && self.are_lists_within(z))
     }
 
     pub fn has_write(self) -> bool
@@ -214,9 +249,9 @@ impl ClientRecord {
         let phase = self.phase;
         match phase {
             Phase::NoRebuild => false,
-            Phase::Locking(_) => true,
+            Phase::Locking(_, _) => true,
             Phase::Picking(_) => true,
-            Phase::Writing(_, _) => true,
+            Phase::Writing(_, _, _) => true,
             Phase::Settling(_, _) => true,
             Phase::Unlocking(_) => true,
         }
@@ -224,21 +259,16 @@ impl ClientRecord {
 
     // ---- the write in hand
 
-    fn with_hand(self, hand: Hand, done: NodeSet) -> Self
-        ensures { λ r. ⌜ clientOf r ≡ withHand (handOf hand done) (clientOf self) ⌝ }
+    fn with_hand(self, hand: Hand) -> Self
+        ensures { λ r. ⌜ clientOf r ≡ withHand (handOf hand) (clientOf self) ⌝ }
     {
         let phase = self.phase;
-        let expired = self.expired;
-        let set = self.set;
         let finished = self.finished;
         let moved = self.moved;
         let next = self.next;
         ClientRecord {
             hand: hand,
-            done: done,
             phase: phase,
-            expired: expired,
-            set: set,
             finished: finished,
             moved: moved,
             round: self.round,
@@ -246,16 +276,15 @@ impl ClientRecord {
         }
     }
 
-    // A new write, done at its own position; its number is used.
+    // A new write; its number is used.
     pub fn begin(self, write: Write) -> Self
         requires { ⌜ self .next .0 < writeLimit ⌝ }
-        ensures { λ r. ⌜ clientOf r ≡ began (writeOf write (record { has = including (write .id .position) noNodes })) (clientOf self) ⌝ }
+        ensures { λ r. ⌜ clientOf r ≡ began (writeOf write) (clientOf self) ⌝ }
     {
-        let done = NodeSet::none().with(write.id.position as usize);
         let next = WriteNumber(self.next.0 + 1);
         let mut client = self;
         client.next = next;
-        client.with_hand(Hand::Holding(write), done)
+        client.with_hand(Hand::Holding(write))
     }
 
     pub fn finish(self, id: WriteId) -> Self
@@ -270,43 +299,39 @@ impl ClientRecord {
     pub fn drop_write(self) -> Self
         ensures { λ r. ⌜ clientOf r ≡ withHand none (clientOf self) ⌝ }
     {
-        let done = self.done;
-        self.with_hand(Hand::Empty, done)
+        self.with_hand(Hand::Empty)
     }
 
-    // Node j joins the nodes done.
-    pub fn join(self, j: u8) -> Self
-        ensures { λ r. ⌜ clientOf r ≡ withHand (handOf (self .hand) (record { has = including j (self .done .has) })) (clientOf self) ⌝ }
+    // The write in hand is done at node j too.
+    pub fn join(self, write: Write, j: u8) -> Self
+        ensures { λ r. ⌜ clientOf r ≡ withHand (some (record { id = write .id; previous = write .previous; epoch = write .epoch; done = including j (nodeSetOf (write .done)) })) (clientOf self) ⌝ }
     {
-        let hand = self.hand;
-        let done = self.done;
-        self.with_hand(hand, done.with(j as usize))
+        let done = write.done;
+        self.with_hand(Hand::Holding(write.with_done(done.with(j as usize))))
     }
 
-    // Node j leaves the nodes done: check's INIT.
-    pub fn leave(self, j: u8) -> Self
-        requires { ⌜ (1 ≤ j) × (j ≤ 18) ⌝ }
-        ensures { λ r. ⌜ clientOf r ≡ withHand (handOf (self .hand) (record { has = excluding j (self .done .has) })) (clientOf self) ⌝ }
+    // The write in hand is done at node j no more: check's INIT.
+    pub fn leave(self, write: Write, j: u8) -> Self
+        ensures { λ r. ⌜ clientOf r ≡ withHand (some (record { id = write .id; previous = write .previous; epoch = write .epoch; done = excluding j (nodeSetOf (write .done)) })) (clientOf self) ⌝ }
     {
-        let hand = self.hand;
-        let mut done = self.done;
-        done.has[j as usize - 1] = false;
-        self.with_hand(hand, done)
+        let done = write.done;
+        self.with_hand(Hand::Holding(write.with_done(done.without(j as usize))))
     }
 
     // The write in hand has no previous id any more: check's GC.
     pub fn forget(self, write: Write) -> Self
-        ensures { λ r. ⌜ clientOf r ≡ withHand (some (record { id = write .id; previous = Previous.Nothing; epoch = write .epoch; done = self .done .has })) (clientOf self) ⌝ }
+        ensures { λ r. ⌜ clientOf r ≡ withHand (some (record { id = write .id; previous = Previous.Nothing; epoch = write .epoch; done = nodeSetOf (write .done) })) (clientOf self) ⌝ }
     {
-        let done = self.done;
         let id = write.id;
         let epoch = write.epoch;
+        let done = write.done;
         let kept = Write {
             id: id,
             previous: Previous::Nothing,
             epoch: epoch,
+            done: done,
         };
-        self.with_hand(Hand::Holding(kept), done)
+        self.with_hand(Hand::Holding(kept))
     }
 
     // ---- the sweep round
@@ -350,20 +375,16 @@ impl ClientRecord {
 
     // ---- the rebuild
 
-    fn with_phase(self, phase: Phase, expired: NodeSet, set: NodeSet) -> Self
-        ensures { λ r. ⌜ clientOf r ≡ withRebuild (rebuildOf phase expired set) (clientOf self) ⌝ }
+    fn with_phase(self, phase: Phase) -> Self
+        ensures { λ r. ⌜ clientOf r ≡ withRebuild (rebuildOf phase) (clientOf self) ⌝ }
     {
         let hand = self.hand;
-        let done = self.done;
         let finished = self.finished;
         let moved = self.moved;
         let next = self.next;
         ClientRecord {
             hand: hand,
-            done: done,
             phase: phase,
-            expired: expired,
-            set: set,
             finished: finished,
             moved: moved,
             round: self.round,
@@ -371,24 +392,27 @@ impl ClientRecord {
         }
     }
 
+    // The node that the rebuild is at.
+    pub fn node(self) -> usize
+        ensures { λ r. ⌜ r ≡ nextNode (clientOf self .rebuild) ⌝ }
+    {
+        let phase = self.phase;
+        phase.node()
+    }
+
     // After the lock of the next node, whose lmode was old.
     pub fn lock(self, old: Lmode, n: usize) -> Self
-        requires { ⌜ ((isL0 old || isL1 old) ≡ false) × (locksOf (self .phase) < 18) ⌝ }
+        requires { ⌜ ((isL0 old || isL1 old) ≡ false) × (length (remembered (clientOf self .rebuild)) < 18) ⌝ }
         ensures { λ r. ⌜ clientOf r ≡ withRebuild (lockedRebuild n old (remembered (clientOf self .rebuild))) (clientOf self) ⌝ }
     {
         let phase = self.phase;
-        let x = phase.locks();
-        let set = self.set;
-        let mut expired = self.expired;
-        expired.has[x as usize] = old.is_exp();
-        self.with_phase(Phase::locked(x + 1, n), expired, set)
+        self.with_phase(phase.lock(old, n))
     }
 
     pub fn pick(self, set: NodeSet, epoch: Epoch) -> Self
-        ensures { λ r. ⌜ clientOf r ≡ withRebuild (Writing 1 (set .has) epoch) (clientOf self) ⌝ }
+        ensures { λ r. ⌜ clientOf r ≡ withRebuild (Writing 1 (nodeSetOf set) epoch) (clientOf self) ⌝ }
     {
-        let expired = self.expired;
-        self.with_phase(Phase::Writing(1, epoch), expired, set)
+        self.with_phase(Phase::Writing(1, set, epoch))
     }
 
     // After a weaken: node k + 1 is the lowest not tightened.
@@ -396,9 +420,7 @@ impl ClientRecord {
         requires { ⌜ k ≤ 12 ⌝ }
         ensures { λ r. ⌜ clientOf r ≡ withRebuild (Picking (k + 1)) (clientOf self) ⌝ }
     {
-        let expired = self.expired;
-        let set = self.set;
-        self.with_phase(Phase::Picking(k as u8 + 1), expired, set)
+        self.with_phase(Phase::Picking(k as u8 + 1))
     }
 
     // After a tighten, a write, a settle or an unlock of the phase's node.
@@ -407,16 +429,12 @@ impl ClientRecord {
         ensures { λ r. ⌜ clientOf r ≡ withRebuild (nextRebuild n (clientOf self .rebuild)) (clientOf self) ⌝ }
     {
         let phase = self.phase;
-        let expired = self.expired;
-        let set = self.set;
-        self.with_phase(phase.next(n), expired, set)
+        self.with_phase(phase.next(n))
     }
 
     pub fn end_rebuild(self) -> Self
         ensures { λ r. ⌜ clientOf r ≡ withRebuild NoRebuild (clientOf self) ⌝ }
     {
-        let expired = self.expired;
-        let set = self.set;
-        self.with_phase(Phase::NoRebuild, expired, set)
+        self.with_phase(Phase::NoRebuild)
     }
 }

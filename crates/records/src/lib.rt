@@ -1,4 +1,4 @@
-// The records of a stripe: write ids, entries, nodes and clients, the sizes, and the refusals with their numbers.
+// The records of a stripe: write ids, entries, nodes and clients, the sizes, the families of calls, and the refusals with their numbers.
 // The types are here; their methods, each with self by value, are in a file for each record.
 mod client; // client.rt: a client's record, its write in hand, its rebuild
 mod node; // node.rt: a node's record and its calls
@@ -7,7 +7,7 @@ mod ranges; // ranges.rt: the ranges of numbers, the limits of the sizes
 mod write_ids; // write_ids.rt: a write id, a client's list of ids
 
 ghost use mathlib.Core.Path.{_≡_};
-ghost use Rattle.records.specs.Sizes.{numberOf};
+ghost use Rattle.records.specs.Refusals.{numberOf};
 use code::NodeSet;
 
 // A client's count of its writes.
@@ -30,8 +30,11 @@ pub enum Mark {
     Old,
 }
 
+// A write id, its mark and its age, in eight bytes.
 pub struct Entry {
-    pub id: WriteId,
+    pub number: WriteNumber,
+    pub client: u8,
+    pub position: u8,
     pub mark: Mark,
     pub age: Age,
 }
@@ -89,11 +92,12 @@ pub struct NodeRecord {
     pub entries: Entries,
 }
 
-// What a client knows of its write in hand; the set of nodes done is beside it.
+// What a client knows of its write in hand, but for the difference.
 pub struct Write {
     pub id: WriteId,
     pub previous: Previous,
     pub epoch: Epoch,
+    pub done: NodeSet,
 }
 
 pub enum Hand {
@@ -101,25 +105,21 @@ pub enum Hand {
     Holding(Write),
 }
 
-// How far a rebuild is: the locks made; the lowest node not tightened since the weaken, 0 if there is none; from then on the next node of the
-// phase, and E.
+// How far a rebuild is: how many nodes are locked, and which of them were EXP; the lowest node not tightened since the weaken, 0 if there is
+// none; from then on the next node of the phase, with the set picked and E for as long as they are needed.
 pub enum Phase {
     NoRebuild,
-    Locking(u8),
+    Locking(u8, NodeSet),
     Picking(u8),
-    Writing(u8, Epoch),
+    Writing(u8, NodeSet, Epoch),
     Settling(u8, Epoch),
     Unlocking(u8),
 }
 
-// A client but for its difference, which is in the table of differences. Beside the hand: the nodes done; beside the phase: the nodes that were
-// EXP when they were locked, and the set picked.
+// A client but for its difference, which is in the table of differences.
 pub struct ClientRecord {
     pub hand: Hand,
-    pub done: NodeSet,
     pub phase: Phase,
-    pub expired: NodeSet,
-    pub set: NodeSet,
     pub finished: Ids,
     pub moved: Ids,
     pub round: u8,
@@ -133,6 +133,26 @@ pub struct Sizes {
     pub b: usize,
     pub failures: usize,
     pub m: usize,
+}
+
+// A client's calls at a node that they name, swap aside, which has bytes.
+pub enum NodeCall {
+    Add,
+    Check,
+}
+
+// A client's calls that name nothing else, pick aside, which looks at every record.
+pub enum ClientCall {
+    Drop,
+    Sweep,
+    Stop,
+    Lock,
+    Weaken,
+    Tighten,
+    Write,
+    Settle,
+    Unlock,
+    Quit,
 }
 
 // Why a call is refused, with what is returned.
@@ -167,6 +187,12 @@ pub enum CheckAnswer {
     Init,
     Gc,
     NoChange,
+}
+
+// That answer, and the node's record after the call.
+pub struct CheckStep {
+    pub answer: CheckAnswer,
+    pub node: NodeRecord,
 }
 
 impl Refusal {

@@ -2,11 +2,13 @@
 ghost use mathlib.Core.Bool.{_&&_, _||_};
 ghost use mathlib.Core.Path.{_≡_};
 ghost use Prim.Native.Nat.{_<_, _≤_};
+ghost use Rattle.code.specs.View.{nodeSetOf};
 ghost use Rattle.records.specs.Entries.{discard, markOld};
-ghost use Rattle.records.specs.Node.{epochLimit, freshNode, failedNode, isNorm, isRecons, isInit, isUnl, isExp, isL0, isL1, isHolder, isFree, takesAdd, heldBy, heldAtL1, withEntries, withLmode, entered, lockedBy, weakenedBy, unlocked, expiredFor, givenBack, written, settled, isDue, holderWithin, setWithin, nodeWithin};
-ghost use Rattle.records.specs.NodeSteps.{Meets, emptyNode, enterAnswer, swapAnswer, afterPrevious, addAnswer, sweepAnswer, lockAnswer, checkAnswer};
+ghost use Rattle.records.specs.Node.{epochLimit, freshNode, failedNode, isNorm, isRecons, isInit, isUnl, isExp, isL0, isL1, isHolder, isFree, takesAdd, heldBy, heldAtL1, withEntries, withLmode, entered, lockedBy, weakenedBy, unlocked, expiredFor, givenBack, written, settled, isDue, holderWithin, nodeWithin};
+ghost use Rattle.records.specs.NodeSteps.{Meets, emptyNode, enterAnswer, readAnswer, swapAnswer, afterPrevious, addAnswer, sweepAnswer, lockAnswer, heldAnswer, weakenAnswer, checkAnswer};
 ghost use Rattle.records.specs.View.{idsOf, nodeOf};
 use crate::CheckAnswer;
+use crate::CheckStep;
 use crate::Entries;
 use crate::Epoch;
 use crate::Holder;
@@ -22,20 +24,6 @@ use crate::Sizes;
 use crate::Write;
 use crate::WriteId;
 use code::NodeSet;
-
-// Whether every member is one of the nodes 1 to n.
-pub(crate) fn is_set_within(set: NodeSet, n: usize) -> bool
-    ensures { λ r. ⌜ r ≡ setWithin n (set .has) ⌝ }
-{
-    let mut j = n;
-    while j < 18 {
-        if set.has[j] {
-            return false;
-        }
-        j += 1;
-    }
-    true
-}
 
 impl Opmode {
     pub fn is_norm(self) -> bool
@@ -226,7 +214,7 @@ impl NodeRecord {
         let rset = self.rset;
         holder.is_within(lmode, z)
             && (self.epoch.0 <= NodeRecord::EPOCHS
-                && (is_set_within(rset, z.n) && self.entries.is_within(z)))
+                && (rset.is_within(z.n) && self.entries.is_within(z)))
     }
 
     // ---- answers
@@ -269,6 +257,16 @@ impl NodeRecord {
         let mut node = self;
         node.entries = self.entries.enter(id);
         node.accepted()
+    }
+
+    pub fn read(self) -> NodeStep
+        ensures { λ r. ⌜ Meets (readAnswer (nodeOf self)) (nodeOf self) self r ⌝ }
+    {
+        if self.is_free() {
+            self.accepted()
+        } else {
+            self.wrong_mode()
+        }
     }
 
     pub fn swap(self, id: WriteId) -> NodeStep
@@ -314,7 +312,8 @@ impl NodeRecord {
         self.enter_after(previous, id)
     }
 
-    pub fn check(self, write: Write) -> CheckAnswer
+    // What the node tells of a write whose id it was sent.
+    fn told(self, write: Write) -> CheckAnswer
         requires { ⌜ self .entries .count ≤ 16 ⌝ }
         ensures { λ r. ⌜ r ≡ checkAnswer write (nodeOf self) ⌝ }
     {
@@ -327,6 +326,17 @@ impl NodeRecord {
             CheckAnswer::NoChange
         } else {
             CheckAnswer::Gc
+        }
+    }
+
+    pub fn check(self, write: Write) -> CheckStep
+        requires { ⌜ self .entries .count ≤ 16 ⌝ }
+        ensures { λ r. ⌜ r ≡ record { answer = checkAnswer write (nodeOf self); node = self } ⌝ }
+    {
+        let answer = self.told(write);
+        CheckStep {
+            answer: answer,
+            node: self,
         }
     }
 
@@ -380,30 +390,102 @@ impl NodeRecord {
         if lmode.is_locked() {
             return self.refused(Refusal::Locked);
         }
-        let node = self.tighten(c);
-        node.accepted()
+        self.locked_by(c).accepted()
     }
 
-    pub fn tighten(self, c: u8) -> Self
+    pub fn tighten(self, c: u8) -> NodeStep
+        ensures { λ r. ⌜ Meets (heldAnswer c (nodeOf self)) (lockedBy c (nodeOf self)) self r ⌝ }
+    {
+        if !self.held_by(c) {
+            return self.refused(Refusal::NotHeld);
+        }
+        self.locked_by(c).accepted()
+    }
+
+    pub fn weaken(self, c: u8) -> NodeStep
+        ensures { λ r. ⌜ Meets (weakenAnswer c (nodeOf self)) (weakenedBy c (nodeOf self)) self r ⌝ }
+    {
+        let opmode = self.opmode;
+        if opmode.is_recons() {
+            return self.refused(Refusal::OutOfPhase);
+        }
+        if !self.held_by(c) {
+            return self.refused(Refusal::NotHeld);
+        }
+        self.weakened_by(c).accepted()
+    }
+
+    pub fn unlock(self, c: u8) -> NodeStep
+        ensures { λ r. ⌜ Meets (heldAnswer c (nodeOf self)) (unlocked (nodeOf self)) self r ⌝ }
+    {
+        if !self.held_by(c) {
+            return self.refused(Refusal::NotHeld);
+        }
+        self.unlocked().accepted()
+    }
+
+    // All that c held becomes EXP.
+    pub fn expire(self, c: u8) -> NodeStep
+        ensures { λ r. ⌜ Meets NodeAnswer.Accepted (expiredFor c (nodeOf self)) self r ⌝ }
+    {
+        self.expired_for(c).accepted()
+    }
+
+    // The old lmode, if c still holds the node: what a lock that is refused leaves of those before it.
+    pub fn give_back(self, c: u8, old: Lmode) -> NodeStep
+        ensures { λ r. ⌜ Meets NodeAnswer.Accepted (givenBack c old (nodeOf self)) self r ⌝ }
+    {
+        self.given_back(c, old).accepted()
+    }
+
+    pub fn write(self, c: u8, epoch: Epoch, set: NodeSet) -> NodeStep
+        ensures { λ r. ⌜ Meets (heldAnswer c (nodeOf self)) (written epoch (nodeSetOf set) (nodeOf self)) self r ⌝ }
+    {
+        if !self.held_by(c) {
+            return self.refused(Refusal::NotHeld);
+        }
+        self.written(epoch, set).accepted()
+    }
+
+    pub fn settle(self, c: u8, epoch: Epoch) -> NodeStep
+        requires { ⌜ epoch .0 < epochLimit ⌝ }
+        ensures { λ r. ⌜ Meets (heldAnswer c (nodeOf self)) (settled epoch (nodeOf self)) self r ⌝ }
+    {
+        if !self.held_by(c) {
+            return self.refused(Refusal::NotHeld);
+        }
+        self.settled(epoch).accepted()
+    }
+
+    // ---- failure
+
+    pub fn fail(self) -> NodeStep
+        ensures { λ r. ⌜ Meets NodeAnswer.Accepted failedNode self r ⌝ }
+    {
+        NodeRecord::failed().accepted()
+    }
+
+    // ---- the record after a call
+
+    pub fn locked_by(self, c: u8) -> Self
         ensures { λ r. ⌜ nodeOf r ≡ lockedBy c (nodeOf self) ⌝ }
     {
         self.with_lmode(Lmode::L1, Holder::Client(c))
     }
 
-    pub fn weaken(self, c: u8) -> Self
+    pub fn weakened_by(self, c: u8) -> Self
         ensures { λ r. ⌜ nodeOf r ≡ weakenedBy c (nodeOf self) ⌝ }
     {
         self.with_lmode(Lmode::L0, Holder::Client(c))
     }
 
-    pub fn unlock(self) -> Self
+    pub fn unlocked(self) -> Self
         ensures { λ r. ⌜ nodeOf r ≡ unlocked (nodeOf self) ⌝ }
     {
         self.with_lmode(Lmode::Unl, Holder::Nobody)
     }
 
-    // The old lmode, if c still holds the node.
-    pub fn give_back(self, c: u8, old: Lmode) -> Self
+    pub fn given_back(self, c: u8, old: Lmode) -> Self
         ensures { λ r. ⌜ nodeOf r ≡ givenBack c old (nodeOf self) ⌝ }
     {
         if self.held_by(c) {
@@ -413,14 +495,14 @@ impl NodeRecord {
         }
     }
 
-    pub fn expire(self, c: u8) -> Self
+    pub fn expired_for(self, c: u8) -> Self
         ensures { λ r. ⌜ nodeOf r ≡ expiredFor c (nodeOf self) ⌝ }
     {
-        self.give_back(c, Lmode::Exp)
+        self.given_back(c, Lmode::Exp)
     }
 
-    pub fn write(self, epoch: Epoch, set: NodeSet) -> Self
-        ensures { λ r. ⌜ nodeOf r ≡ written epoch (set .has) (nodeOf self) ⌝ }
+    pub fn written(self, epoch: Epoch, set: NodeSet) -> Self
+        ensures { λ r. ⌜ nodeOf r ≡ written epoch (nodeSetOf set) (nodeOf self) ⌝ }
     {
         let lmode = self.lmode;
         let holder = self.holder;
@@ -435,7 +517,7 @@ impl NodeRecord {
         }
     }
 
-    pub fn settle(self, epoch: Epoch) -> Self
+    pub fn settled(self, epoch: Epoch) -> Self
         requires { ⌜ epoch .0 < epochLimit ⌝ }
         ensures { λ r. ⌜ nodeOf r ≡ settled epoch (nodeOf self) ⌝ }
     {

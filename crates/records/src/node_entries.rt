@@ -8,7 +8,7 @@ ghost use lib.ListN.{length};
 ghost use Rattle.records.specs.Entries.{isRecent, isListed, isRecentIn, isOldIn, lastRecent, previousRecent, newEntry, aged, enter, discard, markOld, someDue};
 ghost use Rattle.records.specs.Node.{entryLimit, entriesWithin};
 ghost use Rattle.records.specs.Lists.{passes, somePasses, isOutside, olderEntry, markedEntry, isKept, offered, changed};
-ghost use Rattle.records.specs.View.{idsOf, entriesOf};
+ghost use Rattle.records.specs.View.{idsOf, entryOf, entriesOf};
 use crate::Age;
 use crate::Entries;
 use crate::Entry;
@@ -40,17 +40,31 @@ impl Age {
 
 impl Entry {
     fn new(id: WriteId) -> Self
-        ensures { λ r. ⌜ r ≡ newEntry id ⌝ }
+        ensures { λ r. ⌜ entryOf r ≡ newEntry id ⌝ }
     {
+        let number = id.number;
         Entry {
-            id: id,
+            number: number,
+            client: id.client,
+            position: id.position,
             mark: Mark::Recent,
             age: Age(0),
         }
     }
 
+    pub fn id(self) -> WriteId
+        ensures { λ r. ⌜ r ≡ entryOf self .id ⌝ }
+    {
+        let number = self.number;
+        WriteId {
+            client: self.client,
+            position: self.position,
+            number: number,
+        }
+    }
+
     pub fn is_recent(self) -> bool
-        ensures { λ r. ⌜ r ≡ isRecent self ⌝ }
+        ensures { λ r. ⌜ r ≡ isRecent (entryOf self) ⌝ }
     {
         let mark = self.mark;
         match mark {
@@ -60,9 +74,9 @@ impl Entry {
     }
 
     fn passes(self, test: EntryTest) -> bool
-        ensures { λ r. ⌜ r ≡ passes test self ⌝ }
+        ensures { λ r. ⌜ r ≡ passes test (entryOf self) ⌝ }
     {
-        let own = self.id;
+        let own = self.id();
         match test {
             EntryTest::Of(id) => own.same(id),
             EntryTest::RecentOf(id) => self.is_recent() && own.same(id),
@@ -73,37 +87,33 @@ impl Entry {
 
     // An age is a byte, so it is within.
     fn is_outside(self, z: Sizes) -> bool
-        ensures { λ r. ⌜ r ≡ isOutside z self ⌝ }
+        ensures { λ r. ⌜ r ≡ isOutside z (entryOf self) ⌝ }
     {
-        let id = self.id;
-        !id.is_within(z)
+        !self.id().is_within(z)
     }
 
     fn older(self) -> Self
-        ensures { λ r. ⌜ r ≡ olderEntry self ⌝ }
+        ensures { λ r. ⌜ entryOf r ≡ olderEntry (entryOf self) ⌝ }
     {
-        let id = self.id;
-        let mark = self.mark;
         let age = self.age.0;
-        let next = if age < Age::LAST { age + 1 } else { age };
-        Entry {
-            id: id,
-            mark: mark,
-            age: Age(next),
-        }
+        let next = Age(if age < Age::LAST { age + 1 } else { age });
+        let mut entry = self;
+        entry.age = next;
+        entry
     }
 
     fn marked(self, ids: Ids) -> Self
         requires { ⌜ ids .count ≤ 8 ⌝ }
-        ensures { λ r. ⌜ r ≡ markedEntry (idsOf ids) self ⌝ }
+        ensures { λ r. ⌜ entryOf r ≡ markedEntry (idsOf ids) (entryOf self) ⌝ }
     {
-        let id = self.id;
-        let age = self.age;
-        if ids.has(id) {
-            let mark = Mark::Old;
+        if ids.has(self.id()) {
+            let number = self.number;
+            let age = self.age;
             return Entry {
-                id: id,
-                mark: mark,
+                number: number,
+                client: self.client,
+                position: self.position,
+                mark: Mark::Old,
                 age: age,
             };
         }
@@ -112,10 +122,9 @@ impl Entry {
 
     fn is_kept(self, ids: Ids) -> bool
         requires { ⌜ ids .count ≤ 8 ⌝ }
-        ensures { λ r. ⌜ r ≡ isKept (idsOf ids) self ⌝ }
+        ensures { λ r. ⌜ r ≡ isKept (idsOf ids) (entryOf self) ⌝ }
     {
-        let id = self.id;
-        self.is_recent() || !ids.has(id)
+        self.is_recent() || !ids.has(self.id())
     }
 }
 
@@ -133,7 +142,7 @@ impl Entries {
 
     fn push(self, e: Entry) -> Self
         requires { ⌜ self .count < 16 ⌝ }
-        ensures { λ r. ⌜ entriesOf r ≡ entriesOf self ++ (e ∷ []) ⌝ }
+        ensures { λ r. ⌜ entriesOf r ≡ entriesOf self ++ (entryOf e ∷ []) ⌝ }
     {
         let mut items = self.items;
         let n = self.count;
@@ -235,8 +244,7 @@ impl Entries {
             i -= 1;
             let e = items[i];
             if e.is_recent() {
-                let id = e.id;
-                return Previous::Id(id);
+                return Previous::Id(e.id());
             }
         }
         Previous::Nothing
@@ -245,7 +253,7 @@ impl Entries {
     // The list with what the change leaves of one entry more.
     fn offered(self, e: Entry, change: EntryChange, ids: Ids) -> Self
         requires { ⌜ (self .count < 16) × (ids .count ≤ 8) ⌝ }
-        ensures { λ r. ⌜ entriesOf r ≡ entriesOf self ++ offered change (idsOf ids) e ⌝ }
+        ensures { λ r. ⌜ entriesOf r ≡ entriesOf self ++ offered change (idsOf ids) (entryOf e) ⌝ }
     {
         match change {
             EntryChange::Mark => self.push(e.marked(ids)),

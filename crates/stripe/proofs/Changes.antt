@@ -10,7 +10,9 @@ use lib.ListN.{length, getD, take, drop, length-map}
 use lib.Seq.{ext-getD}
 use Rattle.blocks.specs.Blocks.{listOf}
 use Rattle.blocks.proofs.Tables.{length-listOf, getD-listOf}
-use Rattle.code.specs.Decode.{NodeSet, has}
+use Rattle.code.specs.declared.nodes.NodeSet.{NodeSet}
+use Rattle.code.specs.Decode.{has}
+use Rattle.code.specs.View.{nodeSetOf}
 use Rattle.machine.specs.Rebuild.{restored}
 use Rattle.records.specs.declared.Lmode.{Lmode}
 use Rattle.records.specs.declared.Lmode.the-variants.{Unl}
@@ -22,12 +24,12 @@ use Rattle.stripe.proofs.Loops.{Stored}
 use Rattle.stripe.proofs.NodeLists.{nodes-count}
 
 -- the nodes of the list l, place by place
-nodes-are : (n : ℕ) (x : Nodes) (l : List Node) → length l ≡ n → ((p : ℕ) → p < n → nodeOf (recordAt x p) ≡ getD l p failedNode) → nodesOf n x ≡ l
+pub nodes-are : (n : ℕ) (x : Nodes) (l : List Node) → length l ≡ n → ((p : ℕ) → p < n → nodeOf (recordAt x p) ≡ getD l p failedNode) → nodesOf n x ≡ l
 nodes-are n x l e at =
     ext-getD failedNode (nodesOf n x) l (nodes-count n x ∙ sym e)
     (λ p h. let b : p < n = omega (arith, nodes-count n x) in getD-listOf n (λ i. nodeOf (recordAt x i)) p failedNode b ∙ at p b)
 
-node-there : (n : ℕ) (x : Nodes) (p : ℕ) → p < n → getD (nodesOf n x) p failedNode ≡ nodeOf (recordAt x p)
+pub node-there : (n : ℕ) (x : Nodes) (p : ℕ) → p < n → getD (nodesOf n x) p failedNode ≡ nodeOf (recordAt x p)
 node-there n x p h = getD-listOf n (λ i. nodeOf (recordAt x i)) p failedNode h
 
 -- ---- the nodes after the first k
@@ -38,13 +40,13 @@ module _ (f : Node → Node) where
   after-length (suc k) [] = refl
   after-length (suc k) (x ∷ l) = ap suc (after-length k l)
 
-  after-first : (k : ℕ) (l : List Node) (p : ℕ) → p < k → getD (take k l ++ map f (drop k l)) p failedNode ≡ getD l p failedNode
+  pub after-first : (k : ℕ) (l : List Node) (p : ℕ) → p < k → getD (take k l ++ map f (drop k l)) p failedNode ≡ getD l p failedNode
   after-first zero l p h = absurd (omega arith)
   after-first (suc k) [] p h = refl
   after-first (suc k) (x ∷ l) zero h = refl
   after-first (suc k) (x ∷ l) (suc p) h = after-first k l p (omega arith)
 
-  after-rest : (k : ℕ) (l : List Node) (p : ℕ) → k ≤ p → p < length l → getD (take k l ++ map f (drop k l)) p failedNode ≡ f (getD l p failedNode)
+  pub after-rest : (k : ℕ) (l : List Node) (p : ℕ) → k ≤ p → p < length l → getD (take k l ++ map f (drop k l)) p failedNode ≡ f (getD l p failedNode)
   after-rest k [] p h b = absurd (omega arith)
   after-rest zero (x ∷ l) zero h b = refl
   after-rest zero (x ∷ l) (suc p) h b = after-rest zero l p (omega arith) (omega arith)
@@ -87,21 +89,21 @@ restored-rest c (o ∷ old) (x ∷ l) zero h = absurd (omega arith)
 restored-rest c (o ∷ old) (x ∷ l) (suc p) h = restored-rest c old l p (omega arith)
 
 module _ (c : ℕ) (s : NodeSet) (count : ℕ) (x r : Nodes) (i : ℕ)
-    (q : Stored nodeOf blankRecord (λ p. givenBack c (oldLmode (has s (suc p))) (nodeOf (recordAt x p))) (x .items) (r .items) 0 i count)
+    (q : Stored nodeOf blankRecord (λ p. givenBack c (oldLmode (has (nodeSetOf s) (suc p))) (nodeOf (recordAt x p))) (x .items) (r .items) 0 i count)
     (h : count ≤ i) (n : ℕ) where
-  old-count : length (oldLmodes count (record { has = s })) ≡ count
-  old-count = length-listOf count (λ p. oldLmode (has s (suc p)))
+  old-count : length (oldLmodes count s) ≡ count
+  old-count = length-listOf count (λ p. oldLmode (has (nodeSetOf s) (suc p)))
 
-  pub restored-all : nodesOf n r ≡ restored c (oldLmodes count (record { has = s })) (nodesOf n x)
+  pub restored-all : nodesOf n r ≡ restored c (oldLmodes count s) (nodesOf n x)
   restored-all =
-      nodes-are n r (restored c (oldLmodes count (record { has = s })) (nodesOf n x)) (restored-length c (oldLmodes count (record { has = s })) (nodesOf n x) ∙ nodes-count n x)
+      nodes-are n r (restored c (oldLmodes count s) (nodesOf n x)) (restored-length c (oldLmodes count s) (nodesOf n x) ∙ nodes-count n x)
       (λ p b. by p b (decLt p count))
     where
-      by : (p : ℕ) → p < n → Dec (p < count) → nodeOf (recordAt r p) ≡ getD (restored c (oldLmodes count (record { has = s })) (nodesOf n x)) p failedNode
+      by : (p : ℕ) → p < n → Dec (p < count) → nodeOf (recordAt r p) ≡ getD (restored c (oldLmodes count s) (nodesOf n x)) p failedNode
       by p b (yes l) =
           q .done p (omega arith) (omega arith)
-          ∙ sym (restored-locked c (oldLmodes count (record { has = s })) (nodesOf n x) p (rw old-count l) (rw (nodes-count n x) b)
-          ∙ rw (getD-listOf count (λ p. oldLmode (has s (suc p))) p Unl l, node-there n x p b))
+          ∙ sym (restored-locked c (oldLmodes count s) (nodesOf n x) p (rw old-count l) (rw (nodes-count n x) b)
+          ∙ rw (getD-listOf count (λ p. oldLmode (has (nodeSetOf s) (suc p))) p Unl l, node-there n x p b))
       by p b (no m) =
           ap nodeOf (q .others p (λ l. omega arith))
-          ∙ sym (restored-rest c (oldLmodes count (record { has = s })) (nodesOf n x) p (rw old-count (omega arith)) ∙ node-there n x p b)
+          ∙ sym (restored-rest c (oldLmodes count s) (nodesOf n x) p (rw old-count (omega arith)) ∙ node-there n x p b)

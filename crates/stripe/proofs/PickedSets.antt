@@ -1,15 +1,16 @@
 -- The sets of a pick, made place by place, and the recent ids that they go by. Assumes nothing.
 use mathlib.Core.Path.{_≡_, refl, sym, ap, _∙_}
-use mathlib.Core.Bool.{Bool, false, _&&_}
-use mathlib.Core.List.{List}
+use mathlib.Core.Bool.{Bool, true, false, cond, _&&_, _||_, not}
 use Prim.Native.Nat.{ℕ, suc, _+_, _-_, _≤_, _<_}
-use native.Mathlib.Decide.{decLt}
+use native.Mathlib.Decide.{ℕ-discrete, decLt}
 use native.Mathlib.Numerals.{add-one}
 use native.Mathlib.Omega.{arith}
-use lib.ListN.{length, getD}
-use Rattle.code.specs.Decode.{has, setOf, noNodes}
-use Rattle.code.proofs.Members.{has-at, set-ext}
-use Rattle.code.proofs.NodeSets.{has-setOf, length-setOf}
+use lib.Dec.{eqb, leb}
+use lib.ListN.{length}
+use borrow.Author.Tests.{eq-eqb, ne-eqb, le-leb, lt-leb}
+use Rattle.code.specs.Decode.{NodeSet, has, setOf, noNodes, including, excluding}
+use Rattle.code.proofs.Members.{set-cong}
+use Rattle.code.proofs.NodeSets.{has-setOf}
 use Rattle.machine.specs.Stripe.{nodeAt}
 use Rattle.machine.specs.Rebuild.{f, fits}
 use Rattle.records.specs.declared.Sizes.{Sizes}
@@ -21,27 +22,64 @@ use Rattle.stripe.specs.declared.sets.Recents.{Recents}
 use Rattle.stripe.specs.Sets.{fitsBeside, idsAt, Knows}
 use Rattle.stripe.specs.View.{recordAt, nodesOf, recentOf}
 use Rattle.stripe.proofs.IdLists.{recent-keep, keep-count}
-use Rattle.stripe.proofs.Loops.{Stored, store-start}
 use Rattle.stripe.proofs.NodeLists.{node-item}
 
--- ---- a loop that stores for each of the nodes 1 to n whether it is in the set
+-- ---- a loop that puts each of the nodes 1 to n in the set, or not
 
-module _ {new : ℕ → Bool} {none : List Bool} {n : ℕ} (e : none ≡ noNodes) (h : n ≤ 18) where
-  pub mark-start : Stored (λ b. b) false new none none 0 0 n
-  mark-start = store-start (omega arith) (omega (arith, ap length e, length-setOf (λ j. false)))
+-- of the nodes 1 to i, of n, those are in the set that `new` holds of, each by its place from 0
+pub record Marked (new : ℕ → Bool) (s : NodeSet) (i n : ℕ) : Type 0 where
+  pub to : i ≤ n
+  pub is : s ≡ setOf (λ j. leb j i && new (j - 1))
 
-  -- then it is the set of the nodes that p holds of, if p is what was stored, and holds of none past n
-  pub mark-end : (p : ℕ → Bool) {set : List Bool} {i : ℕ} → Stored (λ b. b) false new none set 0 i n → n ≤ i
-      → ((i : ℕ) → i < n → new i ≡ p (suc i)) → ((j : ℕ) → n < j → p j ≡ false) → set ≡ setOf p
-  mark-end p {set} {i} q l is out =
-      set-ext set p (q .places ∙ ap length e ∙ length-setOf (λ j. false)) (λ j j1 j18. has-at set j j1 ∙ by j j1 j18 (decLt n j))
+pub mark-start : {new : ℕ → Bool} {s : NodeSet} {n : ℕ} → s ≡ noNodes → Marked new s 0 n
+mark-start {new} e = record {
+  to = omega arith;
+  is = e ∙ set-cong (λ j. false) (λ j. leb j 0 && new (j - 1)) (λ j j1 j18. rw (lt-leb j 0 j1));
+}
+
+module _ {new : ℕ → Bool} {s : NodeSet} {i n : ℕ} (q : Marked new s i n) where
+  before : (j : ℕ) → 1 ≤ j → j ≤ 18 → has s j ≡ (leb j i && new (j - 1))
+  before j j1 j18 = rw (q .is) (has-setOf (λ j. leb j i && new (j - 1)) j j1 j18)
+
+  pub mark-on : {r : NodeSet} {b : Bool} → i < n → r ≡ cond b (including (i + 1) s) (excluding (i + 1) s) → b ≡ new i → Marked new r (i + 1) n
+  mark-on {r} {b} h e t = record {
+    to = omega arith;
+    is = e ∙ either b ∙ set-cong (put b) (λ j. leb j (i + 1) && new (j - 1)) (λ j j1 j18. at j j1 j18 (ℕ-discrete j (i + 1)) (decLt j (i + 1)));
+  }
     where
-      by : (j : ℕ) → 1 ≤ j → j ≤ 18 → Dec (n < j) → getD set (j - 1) false ≡ p j
-      by j j1 j18 (yes past) =
-          q .others (j - 1) (λ z. omega arith) ∙ sym (has-at none j j1) ∙ rw (e, has-setOf (λ j. false) j j1 j18, out j past)
-      by j j1 j18 (no there) =
-          let s : suc (j - 1) ≡ j = omega arith in
-          q .done (j - 1) (omega arith) (omega arith) ∙ is (j - 1) (omega arith) ∙ ap p s
+      put : Bool → ℕ → Bool
+      put b j = cond b (eqb j (i + 1) || has s j) (not (eqb j (i + 1)) && has s j)
+
+      either : (b : Bool) → cond b (including (i + 1) s) (excluding (i + 1) s) ≡ setOf (put b)
+      either true = refl
+      either false = refl
+
+      own : (b : Bool) → cond b true false ≡ b
+      own true = refl
+      own false = refl
+
+      other : (b x : Bool) → cond b x x ≡ x
+      other true x = refl
+      other false x = refl
+
+      at : (j : ℕ) → 1 ≤ j → j ≤ 18 → Dec (j ≡ i + 1) → Dec (j < i + 1) → put b j ≡ (leb j (i + 1) && new (j - 1))
+      at j j1 j18 (yes same) l =
+          let place : j - 1 ≡ i = omega arith in
+          rw (eq-eqb j (i + 1) same, le-leb j (i + 1) (omega arith), place) (own b ∙ t)
+      at j j1 j18 (no n) (yes l) =
+          rw (ne-eqb j (i + 1) n, le-leb j (i + 1) (omega arith)) (other b (has s j) ∙ before j j1 j18 ∙ rw (le-leb j i (omega arith)))
+      at j j1 j18 (no n) (no l) =
+          rw (ne-eqb j (i + 1) n, lt-leb j (i + 1) (omega arith)) (other b (has s j) ∙ before j j1 j18 ∙ rw (lt-leb j i (omega arith)))
+
+  -- then it is the set of the nodes that p holds of, if p is `new`, and holds of none past n
+  pub mark-end : (p : ℕ → Bool) → n ≤ i → ((i : ℕ) → i < n → new i ≡ p (suc i)) → ((j : ℕ) → n < j → p j ≡ false) → s ≡ setOf p
+  mark-end p l same out = q .is ∙ set-cong (λ j. leb j i && new (j - 1)) p (λ j j1 j18. at j j1 (decLt n j))
+    where
+      at : (j : ℕ) → 1 ≤ j → Dec (n < j) → (leb j i && new (j - 1)) ≡ p j
+      at j j1 (yes past) = rw (lt-leb j i (omega (arith, q .to)), out j past)
+      at j j1 (no there) =
+          let next : suc (j - 1) ≡ j = omega arith in
+          rw (le-leb j i (omega arith)) (same (j - 1) (omega arith) ∙ ap p next)
 
 -- ---- the recent ids that are known
 

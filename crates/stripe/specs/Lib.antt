@@ -1,3 +1,4 @@
 pub mod View
 pub mod Nodes
+pub mod Seen
 pub mod Sets

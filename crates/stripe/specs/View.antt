@@ -21,7 +21,7 @@ blankRecord =
       lmode = Unl;
       holder = Nobody;
       epoch = record { 0 = 0 };
-      rset = record { has = [] };
+      rset = record { bits = 0 };
       entries = record { items = []; count = 0 };
     }
 

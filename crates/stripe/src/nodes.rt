@@ -1,5 +1,5 @@
 // All node records of a stripe, by value.
-ghost use mathlib.Core.Bool.{cond};
+ghost use mathlib.Core.Bool.{true, cond};
 ghost use mathlib.Core.List.{map};
 ghost use mathlib.Core.Path.{_≡_};
 ghost use Prim.Native.Nat.{ℕ, _+_, _<_, _≤_, max};
@@ -7,8 +7,12 @@ ghost use Rattle.machine.specs.Stripe.{nodeAt, setAt, everyOf, someOf};
 ghost use Rattle.machine.specs.Rebuild.{restored, someRecons, countInit, largestEpoch, weakened};
 ghost use Rattle.records.specs.Node.{isInit, heldBy, heldAtL1, expiredFor, nodeWithin};
 ghost use Rattle.records.specs.View.{nodeOf, oldLmode, oldLmodes};
+ghost use Rattle.records.specs.Sizes.{sizesWithin};
+ghost use Rattle.stripe.specs.Seen.{Sees, applied};
 ghost use Rattle.stripe.specs.Nodes.{passes, Readable, changed, changedAfter};
 ghost use Rattle.stripe.specs.View.{recordAt, nodesOf};
+use crate::seen::Change;
+use crate::seen::Seen;
 use code::NodeSet;
 use records::Epoch;
 use records::Lmode;
@@ -60,8 +64,8 @@ impl NodeChange {
         ensures { λ r. ⌜ nodeOf r ≡ changed self (nodeOf node) ⌝ }
     {
         match self {
-            NodeChange::Expire(c) => node.expire(c),
-            NodeChange::Weaken(c) => node.weaken(c),
+            NodeChange::Expire(c) => node.expired_for(c),
+            NodeChange::Weaken(c) => node.weakened_by(c),
         }
     }
 }
@@ -178,6 +182,39 @@ impl Nodes {
         largest
     }
 
+    // What is seen of all n nodes.
+    pub fn see(self, z: Sizes, c: u8) -> Seen
+        ensures { λ r. ⌜ (sizesWithin z ≡ true → Sees z c (nodesOf (z .n) self) r) ⌝ }
+    {
+        let mut seen = Seen::none();
+        if !z.within() {
+            return seen;
+        }
+        let n = z.n;
+        let mut i = 0;
+        while i < n {
+            let node = self.items[i];
+            seen = seen.with(z, c, node);
+            i += 1;
+        }
+        seen
+    }
+
+    // The n nodes after a change.
+    pub fn change(mut self, n: usize, change: Change) -> Self
+        requires { ⌜ n ≤ 18 ⌝ }
+        ensures { λ r. ⌜ nodesOf n r ≡ applied change (nodesOf n self) ⌝ }
+    {
+        let end = change.end(n);
+        let mut i = change.first(n);
+        while i < end {
+            let node = self.items[i];
+            self.items[i] = change.made(i, node);
+            i += 1;
+        }
+        self
+    }
+
     // Each node after the first k changed.
     fn change_after(mut self, k: usize, n: usize, change: NodeChange) -> Self
         requires { ⌜ (k ≤ n) × (n ≤ 18) ⌝ }
@@ -214,8 +251,8 @@ impl Nodes {
         let mut i = 0;
         while i < count {
             let node = self.items[i];
-            let old = old_lmode(was_exp.has[i]);
-            self.items[i] = node.give_back(c, old);
+            let old = old_lmode(was_exp.contains(i + 1));
+            self.items[i] = node.given_back(c, old);
             i += 1;
         }
         self

@@ -5,11 +5,12 @@ ghost use mathlib.Core.Path.{_≡_};
 ghost use Prim.Native.Nat.{_+_, _-_, _<_, _≤_};
 ghost use lib.Dec.{ltb};
 ghost use Rattle.code.specs.Decode.{size};
+ghost use Rattle.code.specs.View.{nodeSetOf};
 ghost use Rattle.machine.specs.Stripe.{nodeAt, someOf};
 ghost use Rattle.machine.specs.Rebuild.{oldSomewhere, recentIds, atPosition, sameIds, allData, besides, largest, resumed, pickedSet, neededSize};
 ghost use Rattle.records.specs.Entries.{isRecent, isIn};
 ghost use Rattle.records.specs.Node.{isNorm};
-ghost use Rattle.records.specs.View.{entriesOf, nodeOf};
+ghost use Rattle.records.specs.View.{entryOf, entriesOf, nodeOf};
 ghost use Rattle.stripe.specs.Sets.{fitsBeside, isResumed, larger, Knows};
 ghost use Rattle.stripe.specs.View.{recentOf, nodesOf, Counted};
 use crate::nodes::NodeTest;
@@ -151,10 +152,9 @@ impl Nodes {
     // Whether the entry's id is among the recent ids of its node.
     fn counts(self, n: usize, e: Entry) -> bool
         requires { ⌜ (n ≤ 18) × Counted n self ⌝ }
-        ensures { λ r. ⌜ r ≡ (isRecent e && not (oldSomewhere (nodesOf n self) (e .id))) ⌝ }
+        ensures { λ r. ⌜ r ≡ (isRecent (entryOf e) && not (oldSomewhere (nodesOf n self) (entryOf e .id))) ⌝ }
     {
-        let id = e.id;
-        e.is_recent() && !self.old_somewhere(n, id)
+        e.is_recent() && !self.old_somewhere(n, e.id())
     }
 
     fn recent_ids(self, n: usize, entries: Entries) -> RecentIds
@@ -166,7 +166,7 @@ impl Nodes {
         let mut i = 0;
         while i < count {
             let e = entries.items[i];
-            out = out.offered(e.id, self.counts(n, e));
+            out = out.offered(e.id(), self.counts(n, e));
             i += 1;
         }
         out
@@ -191,7 +191,7 @@ impl Nodes {
     // The largest consistent set with no redundant member.
     fn all_data(self, z: Sizes) -> NodeSet
         requires { ⌜ (z .k ≤ z .n) × (z .n ≤ 18) ⌝ }
-        ensures { λ r. ⌜ r .has ≡ allData z (nodesOf (z .n) self) ⌝ }
+        ensures { λ r. ⌜ nodeSetOf r ≡ allData z (nodesOf (z .n) self) ⌝ }
     {
         let k = z.k;
         let mut set = NodeSet::none();
@@ -199,7 +199,7 @@ impl Nodes {
         while i < k {
             let node = self.items[i];
             let opmode = node.opmode;
-            set.has[i] = opmode.is_norm();
+            set = set.put(i + 1, opmode.is_norm());
             i += 1;
         }
         set
@@ -208,7 +208,7 @@ impl Nodes {
     // The largest consistent set with the redundant member r.
     fn besides(self, recents: Recents, z: Sizes, r: usize) -> NodeSet
         requires { ⌜ (1 ≤ r) × ((r ≤ z .n) × Knows (z .n) self recents) ⌝ }
-        ensures { λ s. ⌜ s .has ≡ besides z (nodesOf (z .n) self) r ⌝ }
+        ensures { λ s. ⌜ nodeSetOf s ≡ besides z (nodesOf (z .n) self) r ⌝ }
     {
         let k = z.k;
         let n = z.n;
@@ -218,7 +218,7 @@ impl Nodes {
         while i < n {
             let node = self.items[i];
             let own = recents.items[i];
-            set.has[i] = is_beside(node, own, theirs, k, i + 1);
+            set = set.put(i + 1, is_beside(node, own, theirs, k, i + 1));
             i += 1;
         }
         set
@@ -241,12 +241,12 @@ impl Nodes {
     // The set of an unfinished rebuild.
     fn resumed(self, n: usize) -> NodeSet
         requires { ⌜ n ≤ 18 ⌝ }
-        ensures { λ r. ⌜ r .has ≡ resumed (nodesOf n self) ⌝ }
+        ensures { λ r. ⌜ nodeSetOf r ≡ resumed (nodesOf n self) ⌝ }
     {
         let mut set = NodeSet::none();
         let mut i = 0;
         while i < n {
-            set.has[i] = self.is_resumed(n, i + 1);
+            set = set.put(i + 1, self.is_resumed(n, i + 1));
             i += 1;
         }
         set
@@ -255,7 +255,7 @@ impl Nodes {
     // The larger of the best set so far and the one with the redundant node r; on a tie the former.
     fn larger(self, recents: Recents, z: Sizes, r: usize, best: NodeSet) -> NodeSet
         requires { ⌜ (1 ≤ r) × ((r ≤ z .n) × Knows (z .n) self recents) ⌝ }
-        ensures { λ s. ⌜ s .has ≡ larger z (nodesOf (z .n) self) r (best .has) ⌝ }
+        ensures { λ s. ⌜ nodeSetOf s ≡ larger z (nodesOf (z .n) self) r (nodeSetOf best) ⌝ }
     {
         let node = self.get(r);
         let opmode = node.opmode;
@@ -271,7 +271,7 @@ impl Nodes {
     // The largest consistent set; on a tie the all-data set, then the one with the lowest redundant member.
     fn largest(self, recents: Recents, z: Sizes) -> NodeSet
         requires { ⌜ (z .k ≤ z .n) × Knows (z .n) self recents ⌝ }
-        ensures { λ r. ⌜ r .has ≡ largest z (nodesOf (z .n) self) (z .n - z .k) ⌝ }
+        ensures { λ r. ⌜ nodeSetOf r ≡ largest z (nodesOf (z .n) self) (z .n - z .k) ⌝ }
     {
         let redundant = z.n - z.k;
         let mut best = self.all_data(z);
@@ -285,7 +285,7 @@ impl Nodes {
 
     pub fn picked_set(self, z: Sizes) -> NodeSet
         requires { ⌜ (z .k ≤ z .n) × ((z .n ≤ 18) × Counted (z .n) self) ⌝ }
-        ensures { λ r. ⌜ r .has ≡ pickedSet z (nodesOf (z .n) self) ⌝ }
+        ensures { λ r. ⌜ nodeSetOf r ≡ pickedSet z (nodesOf (z .n) self) ⌝ }
     {
         if self.some_recons(z.n) {
             return self.resumed(z.n);

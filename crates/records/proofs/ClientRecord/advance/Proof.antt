@@ -1,6 +1,5 @@
--- The phase of the code is seen as the next. Assumes nothing.
+-- By the phase. Assumes nothing.
 use borrow.Author.Needs.{needs}
-use Rattle.records.proofs.Clients.{next-seen}
 use Rattle.records.proofs.ClientRecord.advance.Statement.{statement}
 use Rattle.records.proofs.ClientRecord.advance.Tie as tie
 
@@ -10,6 +9,4 @@ advance-spec =
     (tie.spec
     (λ c κs. search needs)
     (λ c κs. search needs)
-    (λ c.
-    let a = c .before .before .before .before .args in
-    rw (c .with-phase .ensures, c .before .next .ensures, next-seen (a .self .expired) (a .self .set) (a .n) (a .self .phase))))
+    (λ c. rw (c .with-phase .ensures, c .before .next .ensures)))

@@ -12,6 +12,6 @@ is-within-spec =
     (λ c κs. search needs)
     (λ c κs. search needs)
     (λ c κs. search needs)
-    (λ c. let phase = c .before .before .is-within2 .ensures (c .before .before .before .before .before .before .before .before .args .self .expired) in same-as (client-tests _ _) (search tests))
-    (λ c. let phase = c .before .is-within2 .ensures (c .before .before .before .before .before .before .before .args .self .expired) in same-as (client-tests _ _) (search tests))
+    (λ c. same-as (client-tests _ _) (search tests))
+    (λ c. same-as (client-tests _ _) (search tests))
     (λ c. same-as (client-tests _ _) (search tests)))

@@ -1,6 +1,5 @@
 -- The set with j. Assumes nothing.
 use borrow.Author.Needs.{needs}
-use Rattle.records.proofs.Clients.{joined}
 use Rattle.records.proofs.ClientRecord.join.Statement.{statement}
 use Rattle.records.proofs.ClientRecord.join.Tie as tie
 
@@ -10,4 +9,5 @@ join-spec =
     (tie.spec
     (λ c κs. search needs)
     (λ c κs. search needs)
-    (λ c. let a = c .before .before .before .args in rw (c .with-hand .ensures, c .before .with .ensures, joined (a .j) (a .self .done .has))))
+    (λ c κs. search needs)
+    (λ c. rw (c .with-hand .ensures, c .before .with-done .ensures, c .before .before .with .ensures)))

@@ -3,15 +3,14 @@ use Prim.Native.Nat.{_-_}
 use native.Mathlib.Omega.{arith}
 use lib.ListN.{getD}
 use borrow.Author.Needs.{needs}
-use Rattle.records.specs.Entries.{newEntry}
 use Rattle.records.specs.Lists.{somePasses}
-use Rattle.records.specs.View.{blankId}
+use Rattle.records.specs.View.{entryOf, blankEntry}
 use Rattle.records.proofs.Lists.{Searched, entries-search, search-start, search-on, search-hit, search-end}
 use Rattle.records.proofs.Entries.any.Statement.{statement}
 use Rattle.records.proofs.Entries.any.Tie as tie
 
 abbrev Inv-loop : tie.InvT-loop
-Inv-loop test n items i₀ i = Searched (somePasses test) (λ j. getD items j (newEntry blankId)) i n
+Inv-loop test n items i₀ i = Searched (somePasses test) (λ j. entryOf (getD items j blankEntry)) i n
 
 abbrev μ-loop : tie.MeasureT-loop
 μ-loop test n items i₀ i = n - i

@@ -3,14 +3,13 @@ use Prim.Native.Nat.{_-_}
 use native.Mathlib.Omega.{arith}
 use lib.ListN.{getD}
 use borrow.Author.Needs.{needs}
-use Rattle.records.specs.Entries.{newEntry}
-use Rattle.records.specs.View.{blankId, idsOf}
+use Rattle.records.specs.View.{entryOf, blankEntry, idsOf}
 use Rattle.records.proofs.Lists.{Changed, change-start, change-on, change-end}
 use Rattle.records.proofs.Entries.changed.Statement.{statement}
 use Rattle.records.proofs.Entries.changed.Tie as tie
 
 abbrev Inv-loop : tie.InvT-loop
-Inv-loop change ids n items out₀ i₀ out i = Changed change (idsOf ids) (λ j. getD items j (newEntry blankId)) out i n
+Inv-loop change ids n items out₀ i₀ out i = Changed change (idsOf ids) (λ j. entryOf (getD items j blankEntry)) out i n
 
 abbrev μ-loop : tie.MeasureT-loop
 μ-loop change ids n items out₀ i₀ out i = n - i

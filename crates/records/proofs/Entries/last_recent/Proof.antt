@@ -1,16 +1,16 @@
 -- No entry after the first i is recent. Assumes nothing.
-use mathlib.Core.Path.{sym, _∙_}
+use mathlib.Core.Path.{sym, ap, _∙_}
 use native.Mathlib.Omega.{arith}
 use lib.ListN.{getD}
 use borrow.Author.Needs.{needs}
-use Rattle.records.specs.Entries.{newEntry}
-use Rattle.records.specs.View.{blankId}
+use Rattle.records.specs.declared.Previous.the-variants.{Id}
+use Rattle.records.specs.View.{entryOf, blankEntry}
 use Rattle.records.proofs.Lists.{Lasting, last-start, last-hit, last-on, last-end}
 use Rattle.records.proofs.Entries.last_recent.Statement.{statement}
 use Rattle.records.proofs.Entries.last_recent.Tie as tie
 
 abbrev Inv-loop : tie.InvT-loop
-Inv-loop items i₀ i = Lasting (λ j. getD items j (newEntry blankId)) i i₀
+Inv-loop items i₀ i = Lasting (λ j. entryOf (getD items j blankEntry)) i i₀
 
 abbrev μ-loop : tie.MeasureT-loop
 μ-loop items i₀ i = i
@@ -18,7 +18,7 @@ abbrev μ-loop : tie.MeasureT-loop
 returns : tie.Need-returns Inv-loop μ-loop
 returns c =
     let at-test = c .before .before in
-    last-hit (at-test .before .before .before .loop .inv) (omega arith) (sym (at-test .is-recent .ensures) ∙ c .before .if1 .taken)
+    ap Id (c .id .ensures) ∙ last-hit (at-test .before .before .before .loop .inv) (omega arith) (sym (at-test .is-recent .ensures) ∙ c .before .if1 .taken)
 
 loop-again : tie.Need-loop-again Inv-loop μ-loop
 loop-again c =
@@ -35,6 +35,7 @@ last-recent-spec =
     (λ c. search needs)
     (λ c. search needs)
     (λ c. search needs)
+    (λ c κs. search needs)
     (λ c κs. search needs)
     returns
     (λ c. search needs)

@@ -4,14 +4,12 @@ use Prim.Native.Nat.{_-_}
 use native.Mathlib.Omega.{arith}
 use lib.ListN.{length}
 use borrow.Author.Needs.{needs}
-use Rattle.records.specs.Entries.{newEntry}
-use Rattle.records.specs.View.{blankId}
 use Rattle.records.proofs.Lists.{length-array, Aged, age-start, age-on, age-end}
 use Rattle.records.proofs.Entries.older.Statement.{statement}
 use Rattle.records.proofs.Entries.older.Tie as tie
 
 abbrev Inv-loop : tie.InvT-loop
-Inv-loop n items₀ i₀ items i = Aged (newEntry blankId) items₀ items i n
+Inv-loop n items₀ i₀ items i = Aged items₀ items i n
 
 abbrev μ-loop : tie.MeasureT-loop
 μ-loop n items₀ i₀ items i = n - i

@@ -1,5 +1,6 @@
 -- A store after the last. Assumes nothing.
 use borrow.Author.Needs.{needs}
+use Rattle.records.specs.View.{entryOf}
 use Rattle.records.proofs.Lists.{below-array, listOf-push}
 use Rattle.records.proofs.Entries.push.Statement.{statement}
 use Rattle.records.proofs.Entries.push.Tie as tie
@@ -11,4 +12,4 @@ push-spec =
     (λ c. search needs)
     (λ c. search needs)
     (λ c. search needs)
-    (λ c. listOf-push (c .before .args .self .items) (c .before .args .self .count) _ _ (search below-array)))
+    (λ c. listOf-push entryOf (c .before .args .self .items) (c .before .args .self .count) _ _ (search below-array)))

@@ -5,16 +5,15 @@ use Prim.Native.Nat.{_-_}
 use native.Mathlib.Omega.{arith}
 use lib.ListN.{getD}
 use borrow.Author.Needs.{needs}
-use Rattle.records.specs.declared.Entry.{Entry}
-use Rattle.records.specs.Entries.{newEntry}
+use Rattle.records.specs.Entries.{Entry}
 use Rattle.records.specs.Node.{entriesWithin}
-use Rattle.records.specs.View.{blankId}
+use Rattle.records.specs.View.{entryOf, blankEntry}
 use Rattle.records.proofs.Lists.{Searched, outside-search, search-start, search-on, search-hit, search-end}
 use Rattle.records.proofs.Entries.some_outside.Statement.{statement}
 use Rattle.records.proofs.Entries.some_outside.Tie as tie
 
 abbrev Inv-loop : tie.InvT-loop
-Inv-loop z n items i₀ i = Searched (λ (es : List Entry). not (entriesWithin z es)) (λ j. getD items j (newEntry blankId)) i n
+Inv-loop z n items i₀ i = Searched (λ (es : List Entry). not (entriesWithin z es)) (λ j. entryOf (getD items j blankEntry)) i n
 
 abbrev μ-loop : tie.MeasureT-loop
 μ-loop z n items i₀ i = n - i

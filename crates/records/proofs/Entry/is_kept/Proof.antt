@@ -9,5 +9,6 @@ is-kept-spec =
     (tie.spec
     (λ c κs. search needs)
     (λ c κs. search needs)
+    (λ c κs. search needs)
     (λ c. rw (← c .before .is-recent .ensures, c .if1 .taken))
-    (λ c. rw (← c .before .before .is-recent .ensures, c .before .if1 .left, ← c .has .ensures)))
+    (λ c. rw (← c .before .before .before .is-recent .ensures, c .before .before .if1 .left, ← c .before .id .ensures, ← c .has .ensures)))

@@ -1,10 +1,11 @@
 -- An age is a byte. Assumes nothing.
-use mathlib.Core.Path.{ap}
+use mathlib.Core.Path.{ap, _∙_}
 use mathlib.Core.Bool.{not, and-true}
 use native.Mathlib.Omega.{arith}
 use borrow.Author.Tests.{le-leb}
 use borrow.Author.Needs.{needs}
 use Rattle.records.specs.Node.{idWithin}
+use Rattle.records.specs.View.{entryOf}
 use Rattle.records.proofs.Entry.is_outside.Statement.{statement}
 use Rattle.records.proofs.Entry.is_outside.Tie as tie
 
@@ -13,6 +14,7 @@ is-outside-spec =
     tie.close
     (tie.spec
     (λ c κs. search needs)
+    (λ c κs. search needs)
     (λ c.
     let e = c .before .before .args .self in
-    rw (le-leb (e .age .0) 255 (omega arith), and-true (idWithin _ (e .id))) (ap not (c .is-within .ensures))))
+    rw (le-leb (e .age .0) 255 (omega arith), and-true (idWithin _ (entryOf e .id))) (ap not (c .is-within .ensures ∙ ap (idWithin _) (c .before .id .ensures)))))

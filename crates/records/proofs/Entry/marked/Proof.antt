@@ -6,4 +6,8 @@ use Rattle.records.proofs.Entry.marked.Tie as tie
 pub marked-spec : {M : Type 1} → statement M
 marked-spec =
     tie.close
-    (tie.spec (λ c κs. search needs) (λ c. rw (← c .before .has .ensures, c .if1 .taken)) (λ c. rw (← c .before .has .ensures, c .if1 .left)))
+    (tie.spec
+    (λ c κs. search needs)
+    (λ c κs. search needs)
+    (λ c. rw (← c .before .before .before .before .id .ensures, ← c .before .before .before .has .ensures, c .before .before .if1 .taken))
+    (λ c. rw (← c .before .before .id .ensures, ← c .before .has .ensures, c .if1 .left)))

@@ -6,4 +6,4 @@ use Rattle.records.proofs.Ids.push.Tie as tie
 
 pub push-spec : {M : Type 1} → statement M
 push-spec =
-    tie.close (tie.spec (λ c. search needs) (λ c. search needs) (λ c. search needs) (λ c. listOf-push (c .before .args .self .items) (c .before .args .self .count) _ _ (search below-array)))
+    tie.close (tie.spec (λ c. search needs) (λ c. search needs) (λ c. search needs) (λ c. listOf-push (λ x. x) (c .before .args .self .items) (c .before .args .self .count) _ _ (search below-array)))

@@ -14,4 +14,4 @@ lock-spec =
     (λ c. meets-refused (c .refused .ensures) (search tests))
     (λ c κs. search needs)
     (λ c κs. search needs)
-    (λ c. meets-accepted (c .accepted .ensures) (search tests) (c .before .tighten .ensures)))
+    (λ c. meets-accepted (c .accepted .ensures) (search tests) (c .before .locked-by .ensures)))

@@ -1,5 +1,7 @@
--- By the parts. Assumes nothing.
+-- Refused if the node is not held. Assumes nothing.
 use borrow.Author.Needs.{needs}
+use Rattle.records.proofs.Steps.{meets-refused, meets-accepted}
+use Rattle.records.proofs.Tests.{tests}
 use Rattle.records.proofs.NodeRecord.settle.Statement.{statement}
 use Rattle.records.proofs.NodeRecord.settle.Tie as tie
 
@@ -9,5 +11,7 @@ settle-spec =
     (tie.spec
     (λ c κs. search needs)
     (λ c κs. search needs)
-    (λ c. search needs)
-    (λ c. rw (c .before .before .none .ensures, c .before .none2 .ensures)))
+    (λ c. meets-refused (c .refused .ensures) (search tests))
+    (λ c κs. search needs)
+    (λ c κs. search needs)
+    (λ c. meets-accepted (c .accepted .ensures) (search tests) (c .before .settled .ensures)))

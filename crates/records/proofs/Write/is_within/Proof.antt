@@ -16,14 +16,14 @@ is-within-spec =
     (λ c.
     let previous = c .before .before .before .before .before in
     let id = previous .before .before in
-    let a = id .before .before .before .args in
+    let a = id .before .before .before .before .args in
     rw (
       ← id .before .is-within .ensures,
       id .if1 .taken,
       ← previous .before .is-within2 .ensures,
       previous .if2 .taken,
       le-leb (a .self .epoch .0) 1000000 (c .before .before .before .if3 .taken),
-      ← c .before .before .is-set-within .ensures,
+      ← c .before .before .is-within3 .ensures,
       c .before .if4 .taken,
       ids-count (a .finished),
     ))

@@ -11,5 +11,5 @@ made-spec =
     (λ c κs. search needs)
     (λ c. search needs)
     (λ c κs. search needs)
-    (λ c. rw (c .before .before .self .given .1) (c .expire .ensures))
-    (λ c. rw (c .before .before .self2 .given .1) (c .weaken .ensures)))
+    (λ c. rw (c .before .before .self .given .1) (c .expired-for .ensures))
+    (λ c. rw (c .before .before .self2 .given .1) (c .weakened-by .ensures)))

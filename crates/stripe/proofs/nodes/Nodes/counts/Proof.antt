@@ -12,5 +12,6 @@ counts-spec =
     (tie.spec
     (λ c κs. search needs)
     (λ c κs. search needs)
-    (λ c. and-on _ _ (c .before .before .is-recent .ensures) _ _ (c .before .if1 .taken) (ap not (c .old-somewhere .ensures)))
+    (λ c κs. search needs)
+    (λ c. and-on _ _ (c .before .before .before .is-recent .ensures) _ _ (c .before .before .if1 .taken) (ap not (rw (c .before .id .ensures) at (c .old-somewhere .ensures))))
     (λ c. search tests))

@@ -4,6 +4,7 @@ use Prim.Native.Nat.{_-_}
 use native.Mathlib.Numerals.{add-one}
 use native.Mathlib.Omega.{arith}
 use borrow.Author.Needs.{needs}
+use Rattle.code.specs.View.{nodeSetOf}
 use Rattle.machine.specs.Rebuild.{largest}
 use Rattle.stripe.specs.View.{nodesOf}
 use Rattle.stripe.proofs.Loops.{Reached, reach-start, reach-on, reach-end}
@@ -11,7 +12,7 @@ use Rattle.stripe.proofs.nodes.Nodes.largest.Statement.{statement}
 use Rattle.stripe.proofs.nodes.Nodes.largest.Tie as tie
 
 abbrev Inv-loop : tie.InvT-loop
-Inv-loop self recents z redundant best₀ d₀ best d = Reached (largest z (nodesOf (z .n) self)) (best .has) d redundant
+Inv-loop self recents z redundant best₀ d₀ best d = Reached (largest z (nodesOf (z .n) self)) (nodeSetOf best) d redundant
 
 abbrev μ-loop : tie.MeasureT-loop
 μ-loop self recents z redundant best₀ d₀ best d = redundant - d

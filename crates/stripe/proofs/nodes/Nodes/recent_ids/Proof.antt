@@ -4,24 +4,23 @@ use native.Mathlib.Omega.{arith}
 use lib.ListN.{getD}
 use borrow.Author.Needs.{needs}
 use Rattle.machine.specs.Rebuild.{recentIds}
-use Rattle.records.specs.Entries.{newEntry}
-use Rattle.records.specs.View.{blankId}
+use Rattle.records.specs.View.{entryOf, blankEntry}
 use Rattle.stripe.specs.View.{nodesOf}
 use Rattle.stripe.proofs.IdLists.{Kept, recent-keep, keep-start, keep-on, keep-end}
 use Rattle.stripe.proofs.nodes.Nodes.recent_ids.Statement.{statement}
 use Rattle.stripe.proofs.nodes.Nodes.recent_ids.Tie as tie
 
 abbrev Inv-loop : tie.InvT-loop
-Inv-loop self n entries count out₀ i₀ out i = Kept (recentIds (nodesOf n self)) (λ p. getD (entries .items) p (newEntry blankId)) out i count
+Inv-loop self n entries count out₀ i₀ out i = Kept (recentIds (nodesOf n self)) (λ p. entryOf (getD (entries .items) p blankEntry)) out i count
 
 abbrev μ-loop : tie.MeasureT-loop
 μ-loop self n entries count out₀ i₀ out i = count - i
 
 loop-again : tie.Need-loop-again Inv-loop μ-loop
 loop-again c =
-    let b = c .before .before .before .before in
+    let b = c .before .before .before .before .before in
     let a = b .before .before .args in
-    keep-on (recent-keep (nodesOf (a .n) (a .self))) (b .loop .inv) (omega arith) (rw (c .before .counts .ensures) at (c .offered .ensures))
+    keep-on (recent-keep (nodesOf (a .n) (a .self))) (b .loop .inv) (omega arith) (rw (c .before .counts .ensures, c .before .before .id .ensures) at (c .offered .ensures))
 
 pub recent-ids-spec : {M : Type 1} → statement M
 recent-ids-spec =
@@ -33,6 +32,7 @@ recent-ids-spec =
     (λ c. keep-start (recent-keep (nodesOf (c .before .args .n) (c .before .args .self))) (c .none .ensures))
     (λ c. search needs)
     (λ c. search needs)
+    (λ c κs. search needs)
     (λ c κs. search needs)
     (λ c κs. search needs)
     (λ c. search needs)

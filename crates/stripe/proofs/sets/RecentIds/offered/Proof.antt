@@ -10,7 +10,7 @@ use Rattle.stripe.proofs.sets.RecentIds.offered.Tie as tie
 returns : tie.Need-returns
 returns c =
     let s = c .before .args .t1 in
-    rw (c .if1 .taken) (listOf-push (s .items) (s .count) _ _ (search below-array))
+    rw (c .if1 .taken) (listOf-push (λ x. x) (s .items) (s .count) _ _ (search below-array))
 
 pub offered-spec : {M : Type 1} → statement M
 offered-spec =

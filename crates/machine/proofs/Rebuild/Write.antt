@@ -183,8 +183,8 @@ module _ (O : Ops) where
         first : (y : ℕ) → 1 ≡ suc y → 0 ≡ y
         first y q = omega arith
 
-    pub written-good : Good O h (written c x w e s)
-    written-good =
+    pub write-good : Good O h (written c x w e s)
+    write-good =
         record {
           ghost = G';
           inv = record {

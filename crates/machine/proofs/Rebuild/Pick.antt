@@ -223,8 +223,8 @@ module _ (O : Ops) where
           count = upd-same (h .settles) c (some 0);
         }
 
-    pub picked-good : Good O h' (picked c w e s)
-    picked-good =
+    pub pick-good : Good O h' (picked c w e s)
+    pick-good =
         record {
           ghost = G';
           inv = record {

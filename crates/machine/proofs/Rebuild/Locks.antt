@@ -1,8 +1,8 @@
--- The calls that change locks and phases alone, by what they do to the columns, keep the invariant. Assumes nothing.
+-- The calls that change locks and phases alone, by what they do to the columns, keep the invariant: lock, weaken, tighten, unlock, quit.
+-- Assumes nothing.
 use mathlib.Core.Path.{_≡_, refl, ap, _∙_}
 use mathlib.Core.Logic.{_≢_, _⊎_, inl, inr}
 use mathlib.Core.Bool.{Bool, true, false, cond, _&&_}
-use mathlib.Core.Option.{none}
 use mathlib.Core.List.{List, [], _∷_, _++_}
 use Prim.Native.Nat.{ℕ, zero, suc, _+_, _≤_, _<_}
 use native.Mathlib.Omega.{arith}
@@ -15,12 +15,10 @@ use Rattle.records.specs.Node.{isInit, isRecons}
 use Rattle.records.specs.Node as Node
 use Rattle.records.specs.Client.{Rebuild, NoRebuild, Locking, Picking, Unlocking}
 use Rattle.machine.proofs.Base.{upd, upd-ind, clash, is-false, and-both, cond-ind}
-use Rattle.machine.proofs.Columns.{Ops, Lock, Unl, Exp, L0, L1, isUnl, isExp, isL0, isLocked, heldBy, Columns, setLocks, setPhases, setHands, setFinished}
+use Rattle.machine.proofs.Columns.{Ops, Lock, Unl, Exp, L0, L1, isUnl, isExp, isL0, isLocked, heldBy, Columns, setLocks, setPhases}
 use Rattle.machine.proofs.Ledger.{Ledger}
 use Rattle.machine.proofs.Invariant.{Ghost, IsNode, wasExp, writes, LockingOk, UnlockingOk, PhaseOk, RebuildOk, Inv, Good}
 use Rattle.machine.proofs.Frame.{of-live, rebuild-quiet}
-use Rattle.machine.proofs.Hands.{drop-good}
-use Rattle.machine.proofs.Sweep.{empty-finished-good}
 use Rattle.machine.proofs.Phases.{held-l1, not-other, unheld, phase-unheld, phase-is}
 
 ---- what the calls do to a lock
@@ -56,9 +54,6 @@ module _ {B : Type 0} where
   -- answer 10, and quit
   abbrev pub lost : ℕ → Columns B → Columns B
   lost c s = relocked c (λ j. expired c (s .lock j)) NoRebuild s
-
-  abbrev pub stopped : ℕ → Columns B → Columns B
-  stopped c s = setHands (upd (s .hand) c none) (setFinished (upd (s .finished) c []) (lost c s))
 
   -- answer 9
   abbrev pub gaveBack : ℕ → List Lmode → Columns B → Columns B
@@ -158,14 +153,11 @@ module _ (O : Ops) where
         not-l0 (L0 x) f = clash refl f
         not-l0 (L1 x) f = refl
 
-    ---- Quit, Stop
-    pub lost-good : Good O h (lost c s)
-    lost-good =
+    ---- Quit, and answer 10
+    pub quit-good : Good O h (lost c s)
+    quit-good =
         relock (λ j. expired c (s .lock j)) NoRebuild (λ j. if-locked (heldBy c (s .lock j)) j Exp (λ held. released j Exp held refl (λ e i. refl)))
         (λ j b. cond-ind (λ l. heldBy c l ≡ false) (heldBy c (s .lock j)) Exp (s .lock j) (λ held. refl) (λ f. f)) refl
-
-    pub stopped-good : Good O h (stopped c s)
-    stopped-good = drop-good O h (setFinished (upd (s .finished) c []) (lost c s)) c (empty-finished-good O h (lost c s) c lost-good)
 
     ---- Lock
     module _ (old : List Lmode) (next : LocksNext (s .phase c) old) where
@@ -176,8 +168,8 @@ module _ (O : Ops) where
           go (inl p) = phase-is O I c p j b
           go (inr p) = let f = phase-is O I c (p .0) j b in record { before = λ t. clash t f; tight = λ t. clash t f; was = λ t. clash t f }
 
-      pub gaveBack-good : Good O h (gaveBack c old s)
-      gaveBack-good =
+      pub give-back-good : Good O h (gaveBack c old s)
+      give-back-good =
           relock (λ j. givenBack c old j (s .lock j)) NoRebuild
           (λ j. if-locked (test j) j (was j) (λ e. back j (and-both (leb j (length old)) (heldBy c (s .lock j)) e .1))) mine refl
         where
@@ -229,16 +221,16 @@ module _ (O : Ops) where
             (λ j ne b. let v = locking j b in
             record { before = λ q. let a = v .before q in omega arith; tight = v .tight; was = λ q e i. snoc-exp old l j (v .was q e i) })
 
-        pub locked-good : Good O h (locked c old l s)
-        locked-good =
+        pub lock-good : Good O h (locked c old l s)
+        lock-good =
             let may = one-lock x (L1 c) (taken x (λ d ne. unheld d (s .lock x) free)) in
             cond-ind (λ p. Good O h (relocked c lock' p s)) (leb n x) (Picking 0) (Locking old')
             (λ e. relock lock' (Picking 0) may (λ j b q t. locking' j b .tight q) refl) (λ e. relock lock' (Locking old') may locking' refl)
 
     ---- Weaken, Tighten, Unlock
-    pub weakened-good : s .phase c ≡ Picking 0 → ((j : ℕ) → IsNode O j → heldBy c (s .lock j) ≡ true) → ((j : ℕ) → isRecons (s .op j) ≡ false) →
+    pub weaken-good : s .phase c ≡ Picking 0 → ((j : ℕ) → IsNode O j → heldBy c (s .lock j) ≡ true) → ((j : ℕ) → isRecons (s .op j) ≡ false) →
         Good O h (weakened c s)
-    weakened-good p held no-recons =
+    weaken-good p held no-recons =
         relock weak-lock (Picking (suc k)) (λ j. if-locked (ltb k j && leb j n) j (L0 c) (λ e. redundant j (and-both (ltb k j) (leb j n) e)))
         (λ j b q f. mine j b f) refl
       where
@@ -258,8 +250,8 @@ module _ (O : Ops) where
         mine j b (inl f) = absurd (omega arith)
         mine j b (inr f) = rw (le-ltb k j (omega arith)) (phase-is O I c p j b (held j b) (inl refl))
 
-    pub tightened-good : (t : ℕ) → s .phase c ≡ Picking (suc t) → heldBy c (s .lock (suc t)) ≡ true → Good O h (tightened c (suc t) s)
-    tightened-good t p held =
+    pub tighten-good : (t : ℕ) → s .phase c ≡ Picking (suc t) → heldBy c (s .lock (suc t)) ≡ true → Good O h (tightened c (suc t) s)
+    tighten-good t p held =
         let may = one-lock (suc t) (L1 c) (taken (suc t) (λ d ne. not-other c d (s .lock (suc t)) ne held)) in
         cond-ind (λ q. Good O h (relocked c lock' q s)) (leb n (suc t)) (Picking 0) (Picking (suc (suc t)))
         (λ e. relock lock' (Picking 0) may (λ j b q f. tight j b (omega (arith, leb-true n (suc t) e, b .high)) q) refl)
@@ -277,8 +269,8 @@ module _ (O : Ops) where
         less j (inl f) = omega arith
         less j (inr a) = a
 
-    pub unlocked-good : (x : ℕ) → s .phase c ≡ Unlocking x → IsNode O x → heldBy c (s .lock x) ≡ true → Good O h (unlocked c x s)
-    unlocked-good x p xn held =
+    pub unlock-good : (x : ℕ) → s .phase c ≡ Unlocking x → IsNode O x → heldBy c (s .lock x) ≡ true → Good O h (unlocked c x s)
+    unlock-good x p xn held =
         let may = one-lock x Unl (released x Unl held refl (λ t i. clash t (unlocking x xn .over held))) in
         cond-ind (λ q. Good O h (relocked c lock' q s)) (leb n x) NoRebuild (Unlocking (suc x))
         (λ e. relock lock' NoRebuild may (last (leb-true n x e)) refl) (λ e. relock lock' (Unlocking (suc x)) may (more (leb-false n x e)) refl)

@@ -338,8 +338,8 @@ module _ (O : Ops) where
         ∙ ap (λ y. cond (eqb y n) (noteFinish h c y (s .block)) (noteCount h c y)) (sym (count .1))
         ∙ ap (λ t. cond t (noteFinish h c x (s .block)) (noteCount h c x)) (eqb-leb x n (settler .high))
 
-    pub settled-good : Good O (noteSettle O h c (h .settles c) (s .block)) (settled c x e s)
-    settled-good = rw note-is (go (leb n x) refl)
+    pub settle-good : Good O (noteSettle O h c (h .settles c) (s .block)) (settled c x e s)
+    settle-good = rw note-is (go (leb n x) refl)
       where
         go : (t : Bool) → leb n x ≡ t →
             Good O (cond t (noteFinish h c x (s .block)) (noteCount h c x)) (setPhases (upd (s .phase) c (cond t (Unlocking 1) (Settling (suc x) e))) s')

@@ -6,11 +6,10 @@ use mathlib.Core.List.{List, []}
 use Prim.Native.Nat.{ℕ, zero, suc, _≤_}
 use native.Mathlib.Nat.{le-trans}
 use native.Mathlib.Omega.{arith}
-use Rattle.records.specs.declared.Entry.{Entry}
 use Rattle.records.specs.declared.WriteId.{WriteId}
 use Rattle.records.specs.declared.Opmode.{Opmode}
 use Rattle.records.specs.declared.Previous.the-variants.{Id}
-use Rattle.records.specs.Entries.{isListed, isRecentIn, isOldIn, isIn, lastRecent, discard, markOld}
+use Rattle.records.specs.Entries.{Entry, isListed, isRecentIn, isOldIn, isIn, lastRecent, discard, markOld}
 use Rattle.machine.proofs.Base.{upd, upd-ind, clash, is-false, bool-cases}
 use Rattle.machine.proofs.EntryLaws.{in-nil, listed-mark, recent-mark, old-mark, last-mark, listed-discard, recent-discard, old-discard, last-discard}
 use Rattle.machine.proofs.Columns.{Ops, Columns, setEntries, setFinished}

@@ -1,32 +1,42 @@
--- A call that is answered 1 leaves the stripe as it was, whatever sizes it is handed. Assumes nothing.
-use mathlib.Core.Path.{_≡_, refl, sym, ap, subst, _∙_}
-use mathlib.Core.Bool.{Bool, true, false, cond, _&&_, _||_, not}
-use mathlib.Core.List.{List, [], _∷_}
+-- A refusal that changes nothing by its number leaves the stripe as it was, whatever sizes the call is handed. One lemma `X-same` for each call X.
+-- Assumes nothing.
+use mathlib.Core.Path.{_≡_, refl, ap, _∙_}
+use mathlib.Core.Bool.{Bool, true, false, cond, _||_, not}
+use mathlib.Core.List.{List, []}
 use mathlib.Core.Option.{Option, none, some}
 use Prim.Native.Nat.{ℕ, zero, suc, _+_}
-use lib.Dec.{leb}
+use lib.Dec.{eqb, leb}
 use lib.ListN.{length}
 use Rattle.code.specs.Decode.{including}
 use Rattle.records.specs.Entries.{isRecentIn, previousRecent}
 use Rattle.records.specs.Node.{isL0, isL1}
-use native.Mathlib.Omega.{arith}
 use Rattle.records.specs.declared.Sizes.{Sizes}
 use Rattle.records.specs.declared.Previous.{Previous}
 use Rattle.records.specs.declared.Previous.the-variants.{Nothing, Id}
+use Rattle.records.specs.declared.NodeCall.{NodeCall}
+use Rattle.records.specs.declared.NodeCall.the-variants.{Add, Check}
+use Rattle.records.specs.declared.ClientCall.{ClientCall}
+use Rattle.records.specs.declared.ClientCall.the-variants.{Drop, Sweep, Stop, Lock, Weaken, Tighten, Settle, Unlock, Quit}
+use Rattle.records.specs.declared.ClientCall.the-variants as ClientCall
 use Rattle.records.specs.declared.Refusal.{Refusal}
 use Rattle.records.specs.declared.Refusal.the-variants.{OutOfLimits, OutOfRange}
 use Rattle.records.specs.Client.{Write, Rebuild, NoRebuild, Locking, Picking, Writing, Settling, Unlocking}
 use Rattle.machine.specs.Stripe.{Stripe, Answer, Accepted, Rebuilt, number, nodeAt, Outcome, answered, refused, guard, Local, Whole, atNode, putNode, onNode, whole, putWhole, onWhole}
 use Rattle.machine.specs.Writing as Writing
 use Rattle.machine.specs.Rebuild as Rebuild
-use Rattle.machine.specs.Calls.{Call, Read, Swap, Add, Check, Drop, Sweep, Stop, Fail, Lock, Pick, Weaken, Tighten, Settle, Unlock, Quit, step}
-use Rattle.machine.specs.Calls as Calls
-use Rattle.machine.proofs.Base.{cond-ind}
+use Rattle.machine.specs.Failure as Failure
+use Rattle.machine.specs.Calls.{Call, Read, Pick, Swap, Fail, At, By, stepAt, stepBy, step, RefusedUnchanged}
+use Rattle.machine.proofs.Base.{clash, cond-ind}
 use Rattle.machine.proofs.View.{put-back, put-whole-back}
+use Rattle.machine.proofs.Kept.{refusal-number}
 
--- answered 1, the call leaves s
-pub record Same {S : Type 0} (s : S) (o : Outcome S) : Type 0 where
-  pub left : number (o .answer) ≡ 1 → o .after ≡ s
+-- whether a call with this answer may change anything: it is accepted, or refused with 9 or 10
+abbrev mayChange : ℕ → Bool
+mayChange number = eqb number 0 || (eqb number 9 || eqb number 10)
+
+-- with any other answer the call leaves s
+record Same {S : Type 0} (s : S) (o : Outcome S) : Type 0 where
+  left : mayChange (number (o .answer)) ≡ false → o .after ≡ s
 
 module _ {S : Type 0} (s : S) where
   same-refused : (why : Refusal) → Same s (refused why s)
@@ -37,40 +47,28 @@ module _ {S : Type 0} (s : S) where
   same-guard true why rest k = same-refused why
   same-guard false why rest k = k
 
-  -- answered with another number
-  same-other : (a : Answer) (t : S) → (number a ≡ 1 → ⊥) → Same s (answered a t)
-  same-other a t f = record { left = λ e. absurd (f e) }
-
   same-cond : (b : Bool) (o p : Outcome S) → Same s o → Same s p → Same s (cond b o p)
   same-cond true o p k l = k
   same-cond false o p k l = l
 
-zero-one : _≡_ {A = ℕ} 0 1 → ⊥
-zero-one e = omega arith
-
-nine-one : _≡_ {A = ℕ} 9 1 → ⊥
-nine-one e = omega arith
-
-ten-one : _≡_ {A = ℕ} 10 1 → ⊥
-ten-one e = omega arith
+  -- an answer that may change anything
+  same-other : (a : Answer) (t : S) → mayChange (number a) ≡ true → Same s (answered a t)
+  same-other a t may = record { left = λ not. clash may not }
 
 module _ (z : Sizes) where
   module _ (l : Local) where
-    accepted : (a : Answer) (t : Local) → number a ≡ 0 → Same l (answered a t)
-    accepted a t e = same-other l a t (λ f. zero-one (sym e ∙ f))
-
     read-same : (i : ℕ) → Same l (Writing.read z i l)
     unfolding Writing.read
-    read-same i = same-guard l _ _ _ (same-guard l _ _ _ (same-guard l _ _ _ (accepted _ _ refl)))
+    read-same i = same-guard l _ _ _ (same-guard l _ _ _ (same-guard l _ _ _ (same-other l _ _ refl)))
 
     swap-same : (c i : ℕ) (value : List ℕ) → Same l (Writing.swap z c i value l)
     unfolding Writing.swap
     swap-same c i value =
-        same-guard l _ _ _ (same-guard l _ _ _ (same-guard l _ _ _ (same-guard l _ _ _ (same-guard l _ _ _ (same-guard l _ _ _ (accepted _ _ refl))))))
+        same-guard l _ _ _ (same-guard l _ _ _ (same-guard l _ _ _ (same-guard l _ _ _ (same-guard l _ _ _ (same-guard l _ _ _ (same-other l _ _ refl))))))
 
     enter-same : (c j : ℕ) (w : Write) → Same l (Writing.addEnter z c j w l)
     unfolding Writing.addEnter
-    enter-same c j w = same-guard l _ _ _ (same-cond l (Writing.isComplete z (w .id .position) (including j (w .done))) _ _ (accepted _ _ refl) (accepted _ _ refl))
+    enter-same c j w = same-guard l _ _ _ (same-cond l (Writing.isComplete z (w .id .position) (including j (w .done))) _ _ (same-other l _ _ refl) (same-other l _ _ refl))
 
     after-same : (c j : ℕ) (w : Write) (p : Previous) → Same l (Writing.addAfter z c j w p l)
     unfolding Writing.addAfter
@@ -91,8 +89,8 @@ module _ (z : Sizes) where
     checked-same j none = same-refused l _
     checked-same j (some w) =
         same-guard l _ _ _
-        (same-cond l (not (isRecentIn (w .id) (l .node .entries))) _ _ (accepted _ _ refl)
-        (same-cond l (previousRecent (w .previous) (l .node .entries)) _ _ (accepted _ _ refl) (accepted _ _ refl)))
+        (same-cond l (not (isRecentIn (w .id) (l .node .entries))) _ _ (same-other l _ _ refl)
+        (same-cond l (previousRecent (w .previous) (l .node .entries)) _ _ (same-other l _ _ refl) (same-other l _ _ refl)))
 
     check-same : (c j : ℕ) → Same l (Writing.check z c j l)
     unfolding Writing.check
@@ -100,38 +98,35 @@ module _ (z : Sizes) where
 
     drop-same : (c : ℕ) → Same l (Writing.drop z c l)
     unfolding Writing.drop
-    drop-same c = same-guard l _ _ _ (same-guard l _ _ _ (same-guard l _ _ _ (accepted _ _ refl)))
+    drop-same c = same-guard l _ _ _ (same-guard l _ _ _ (same-guard l _ _ _ (same-other l _ _ refl)))
 
     sweep-same : (c : ℕ) → Same l (Writing.sweep z c l)
     unfolding Writing.sweep
-    sweep-same c = same-guard l _ _ _ (same-guard l _ _ _ (same-guard l _ _ _ (same-guard l _ _ _ (accepted _ _ refl))))
+    sweep-same c = same-guard l _ _ _ (same-guard l _ _ _ (same-guard l _ _ _ (same-guard l _ _ _ (same-other l _ _ refl))))
 
-    fail-same : (j : ℕ) (value : List ℕ) → Same l (Writing.fail z j value l)
-    unfolding Writing.fail
-    fail-same j value = same-guard l _ _ _ (same-guard l _ _ _ (accepted _ _ refl))
+    fail-same : (j : ℕ) (value : List ℕ) → Same l (Failure.fail z j value l)
+    unfolding Failure.fail
+    fail-same j value = same-guard l _ _ _ (same-guard l _ _ _ (same-other l _ _ refl))
 
   module _ (c : ℕ) (w : Whole) where
-    whole-accepted : (a : Answer) (t : Whole) → number a ≡ 0 → Same w (answered a t)
-    whole-accepted a t e = same-other w a t (λ f. zero-one (sym e ∙ f))
-
     holding-same : (held : Bool) (rest : Outcome Whole) → Same w rest → Same w (Rebuild.holding held c w rest)
     unfolding Rebuild.holding
     holding-same true rest k = k
-    holding-same false rest k = same-other w _ _ ten-one
+    holding-same false rest k = same-other w _ _ refl
 
     -- the tests that every rebuild call begins with
     begun-same : (a b : Bool) (rest : Outcome Whole) → Same w rest → Same w (guard a OutOfLimits w (guard b OutOfRange w rest))
     begun-same a b rest k = same-guard w a _ _ (same-guard w b _ _ k)
 
-    stop-same : Same w (Writing.stop z c w)
-    unfolding Writing.stop
-    stop-same = begun-same _ _ _ (whole-accepted _ _ refl)
+    stop-same : Same w (Failure.stop z c w)
+    unfolding Failure.stop
+    stop-same = begun-same _ _ _ (same-other w _ _ refl)
 
     lock-node-same : (old : List _) → Same w (Rebuild.lockNode z c old w)
     unfolding Rebuild.lockNode
     lock-node-same old =
         let x = nodeAt (w .nodes) (length old + 1) in
-        same-cond w (isL0 (x .lmode) || isL1 (x .lmode)) _ _ (same-other w _ _ nine-one) (whole-accepted _ _ refl)
+        same-cond w (isL0 (x .lmode) || isL1 (x .lmode)) _ _ (same-other w _ _ refl) (same-other w _ _ refl)
 
     lock-same : (r : Rebuild) → Same w (Rebuild.lockIn z c r w)
     unfolding Rebuild.lockIn
@@ -144,7 +139,7 @@ module _ (z : Sizes) where
 
     pick-now-same : Same w (Rebuild.pickNow z c w)
     unfolding Rebuild.pickNow
-    pick-now-same = same-guard w _ _ _ (holding-same _ _ (same-guard w _ _ _ (same-guard w _ _ _ (whole-accepted _ _ refl))))
+    pick-now-same = same-guard w _ _ _ (holding-same _ _ (same-guard w _ _ _ (same-guard w _ _ _ (same-other w _ _ refl))))
 
     pick-same : (r : Rebuild) → Same w (Rebuild.pickIn z c r w)
     unfolding Rebuild.pickIn
@@ -160,7 +155,7 @@ module _ (z : Sizes) where
     unfolding Rebuild.weakenIn
     weaken-same NoRebuild = same-refused w _
     weaken-same (Locking old) = same-refused w _
-    weaken-same (Picking zero) = same-guard w _ _ _ (holding-same _ _ (whole-accepted _ _ refl))
+    weaken-same (Picking zero) = same-guard w _ _ _ (holding-same _ _ (same-other w _ _ refl))
     weaken-same (Picking (suc t)) = same-refused w _
     weaken-same (Writing x set e) = same-refused w _
     weaken-same (Settling x e) = same-refused w _
@@ -171,7 +166,7 @@ module _ (z : Sizes) where
     tighten-same NoRebuild = same-refused w _
     tighten-same (Locking old) = same-refused w _
     tighten-same (Picking zero) = same-refused w _
-    tighten-same (Picking (suc t)) = holding-same _ _ (whole-accepted _ _ refl)
+    tighten-same (Picking (suc t)) = holding-same _ _ (same-other w _ _ refl)
     tighten-same (Writing x set e) = same-refused w _
     tighten-same (Settling x e) = same-refused w _
     tighten-same (Unlocking x) = same-refused w _
@@ -181,7 +176,7 @@ module _ (z : Sizes) where
     writing-same NoRebuild = same-refused w _
     writing-same (Locking old) = same-refused w _
     writing-same (Picking t) = same-refused w _
-    writing-same (Writing x set e) = holding-same _ _ (whole-accepted _ _ refl)
+    writing-same (Writing x set e) = holding-same _ _ (same-other w _ _ refl)
     writing-same (Settling x e) = same-refused w _
     writing-same (Unlocking x) = same-refused w _
 
@@ -191,7 +186,7 @@ module _ (z : Sizes) where
     settle-same (Locking old) = same-refused w _
     settle-same (Picking t) = same-refused w _
     settle-same (Writing x set e) = same-refused w _
-    settle-same (Settling x e) = holding-same _ _ (whole-accepted _ _ (cond-ind (λ a. number a ≡ 0) (leb (z .n) x) Rebuilt Accepted (λ e. refl) (λ e. refl)))
+    settle-same (Settling x e) = holding-same _ _ (same-other w _ _ (cond-ind (λ a. mayChange (number a) ≡ true) (leb (z .n) x) Rebuilt Accepted (λ e. refl) (λ e. refl)))
     settle-same (Unlocking x) = same-refused w _
 
     unlock-same : (r : Rebuild) → Same w (Rebuild.unlockIn z c r w)
@@ -201,7 +196,7 @@ module _ (z : Sizes) where
     unlock-same (Picking t) = same-refused w _
     unlock-same (Writing x set e) = same-refused w _
     unlock-same (Settling x e) = same-refused w _
-    unlock-same (Unlocking x) = holding-same _ _ (whole-accepted _ _ refl)
+    unlock-same (Unlocking x) = holding-same _ _ (same-other w _ _ refl)
 
   module _ (s : Stripe) where
     at-same : (j c : ℕ) (call : Local → Outcome Local) → Same (atNode j c s) (call (atNode j c s)) → Same s (onNode j c call s)
@@ -210,21 +205,35 @@ module _ (z : Sizes) where
     on-same : (c : ℕ) (call : Whole → Outcome Whole) → Same (whole c s) (call (whole c s)) → Same s (onWhole c call s)
     on-same c call k = record { left = λ e. ap (λ w. putWhole c w s) (k .left e) ∙ put-whole-back c s }
 
-    pub limits-same : (x : Call) → Same s (step z x s)
-    unfolding step Rebuild.lock Rebuild.pick Rebuild.weaken Rebuild.tighten Rebuild.write Rebuild.settle Rebuild.unlock Rebuild.quit
-    limits-same (Read i) = at-same i 0 (Writing.read z i) (read-same (atNode i 0 s) i)
-    limits-same (Swap c i value) = at-same i c (Writing.swap z c i value) (swap-same (atNode i c s) c i value)
-    limits-same (Add c j) = at-same j c (Writing.add z c j) (add-same (atNode j c s) c j)
-    limits-same (Check c j) = at-same j c (Writing.check z c j) (check-same (atNode j c s) c j)
-    limits-same (Drop c) = at-same 0 c (Writing.drop z c) (drop-same (atNode 0 c s) c)
-    limits-same (Sweep c) = at-same _ c (Writing.sweep z c) (sweep-same _ c)
-    limits-same (Stop c) = on-same c (Writing.stop z c) (stop-same c (whole c s))
-    limits-same (Fail j value) = at-same j 0 (Writing.fail z j value) (fail-same (atNode j 0 s) j value)
-    limits-same (Lock c) = on-same c (Rebuild.lock z c) (begun-same c (whole c s) _ _ _ (lock-same c (whole c s) (whole c s .client .rebuild)))
-    limits-same (Pick c) = on-same c (Rebuild.pick z c) (begun-same c (whole c s) _ _ _ (pick-same c (whole c s) (whole c s .client .rebuild)))
-    limits-same (Weaken c) = on-same c (Rebuild.weaken z c) (begun-same c (whole c s) _ _ _ (weaken-same c (whole c s) (whole c s .client .rebuild)))
-    limits-same (Tighten c) = on-same c (Rebuild.tighten z c) (begun-same c (whole c s) _ _ _ (tighten-same c (whole c s) (whole c s .client .rebuild)))
-    limits-same (Calls.Write c) = on-same c (Rebuild.write z c) (begun-same c (whole c s) _ _ _ (writing-same c (whole c s) (whole c s .client .rebuild)))
-    limits-same (Settle c) = on-same c (Rebuild.settle z c) (begun-same c (whole c s) _ _ _ (settle-same c (whole c s) (whole c s .client .rebuild)))
-    limits-same (Unlock c) = on-same c (Rebuild.unlock z c) (begun-same c (whole c s) _ _ _ (unlock-same c (whole c s) (whole c s .client .rebuild)))
-    limits-same (Quit c) = on-same c (Rebuild.quit z c) (begun-same c (whole c s) _ _ _ (same-guard (whole c s) _ _ _ (whole-accepted c (whole c s) _ _ refl)))
+    at-call : (op : NodeCall) (c j : ℕ) → Same (atNode j c s) (stepAt op z c j (atNode j c s))
+    at-call Add c j = add-same (atNode j c s) c j
+    at-call Check c j = check-same (atNode j c s) c j
+
+    by-call : (op : ClientCall) (c : ℕ) → Same s (stepBy op z c s)
+    unfolding Rebuild.lock Rebuild.weaken Rebuild.tighten Rebuild.write Rebuild.settle Rebuild.unlock Rebuild.quit
+    by-call Drop c = at-same 0 c (Writing.drop z c) (drop-same (atNode 0 c s) c)
+    by-call Sweep c = at-same _ c (Writing.sweep z c) (sweep-same _ c)
+    by-call Stop c = on-same c (Failure.stop z c) (stop-same c (whole c s))
+    by-call Lock c = on-same c (Rebuild.lock z c) (begun-same c (whole c s) _ _ _ (lock-same c (whole c s) (whole c s .client .rebuild)))
+    by-call Weaken c = on-same c (Rebuild.weaken z c) (begun-same c (whole c s) _ _ _ (weaken-same c (whole c s) (whole c s .client .rebuild)))
+    by-call Tighten c = on-same c (Rebuild.tighten z c) (begun-same c (whole c s) _ _ _ (tighten-same c (whole c s) (whole c s .client .rebuild)))
+    by-call ClientCall.Write c = on-same c (Rebuild.write z c) (begun-same c (whole c s) _ _ _ (writing-same c (whole c s) (whole c s .client .rebuild)))
+    by-call Settle c = on-same c (Rebuild.settle z c) (begun-same c (whole c s) _ _ _ (settle-same c (whole c s) (whole c s .client .rebuild)))
+    by-call Unlock c = on-same c (Rebuild.unlock z c) (begun-same c (whole c s) _ _ _ (unlock-same c (whole c s) (whole c s .client .rebuild)))
+    by-call Quit c = on-same c (Rebuild.quit z c) (begun-same c (whole c s) _ _ _ (same-guard (whole c s) _ _ _ (same-other (whole c s) _ _ refl)))
+
+    call-same : (call : Call) → Same s (step z call s)
+    unfolding step Rebuild.pick
+    call-same (Read i) = at-same i 0 (Writing.read z i) (read-same (atNode i 0 s) i)
+    call-same (Pick c) = on-same c (Rebuild.pick z c) (begun-same c (whole c s) _ _ _ (pick-same c (whole c s) (whole c s .client .rebuild)))
+    call-same (Swap c i value) = at-same i c (Writing.swap z c i value) (swap-same (atNode i c s) c i value)
+    call-same (Fail j value) = at-same j 0 (Failure.fail z j value) (fail-same (atNode j 0 s) j value)
+    call-same (At op c j) = at-same j c (stepAt op z c j) (at-call op c j)
+    call-same (By op c) = by-call op c
+
+pub refusals-same : RefusedUnchanged
+refusals-same z call s why is same = call-same z s call .left (ap (λ a. mayChange (number a)) is ∙ rw (refusal-number why, same))
+
+-- of 1 it is so
+pub limits-same : (z : Sizes) (s : Stripe) (call : Call) → number (step z call s .answer) ≡ 1 → step z call s .after ≡ s
+limits-same z s call one = call-same z s call .left (rw one)

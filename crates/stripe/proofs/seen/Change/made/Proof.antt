@@ -1,0 +1,52 @@
+-- By what the change is: the record after the node's own step. Assumes nothing.
+use mathlib.Core.Path.{_≡_, refl, sym, ap, _∙_}
+use mathlib.Core.Bool.{Bool, true, false, cond, _||_, not}
+use Prim.Native.Nat.{ℕ}
+use borrow.Author.Needs.{needs}
+use Rattle.records.specs.declared.NodeRecord.{NodeRecord}
+use Rattle.records.specs.declared.NodeStep.{NodeStep}
+use Rattle.records.specs.declared.NodeAnswer.{NodeAnswer}
+use Rattle.records.specs.declared.NodeAnswer.the-variants.{Accepted, Refused}
+use Rattle.records.specs.declared.Refusal.{Refusal}
+use Rattle.records.specs.declared.Refusal.the-variants.{OutOfPhase, NotHeld}
+use Rattle.records.specs.Node.{Node, isRecons, heldBy, weakenedBy}
+use Rattle.records.specs.NodeSteps.{Left, Meets, weakenAnswer}
+use Rattle.records.specs.View.{nodeOf}
+use Rattle.stripe.specs.Seen.{weakenedFor}
+use Rattle.stripe.proofs.seen.Change.made.Statement.{statement}
+use Rattle.stripe.proofs.seen.Change.made.Tie as tie
+
+-- what a step that is always accepted leaves
+after-step : {after : Node} {before : NodeRecord} {r : NodeStep} → Meets Accepted after before r → nodeOf (r .node) ≡ after
+after-step m = rw (m .answered) at (m .left)
+
+-- and a weaken, which may be refused
+after-weaken : (c : ℕ) {before : NodeRecord} {r : NodeStep} → Meets (weakenAnswer c (nodeOf before)) (weakenedBy c (nodeOf before)) before r
+    → nodeOf (r .node) ≡ weakenedFor c (nodeOf before)
+after-weaken c {before} {r} m =
+    by (isRecons (before .opmode)) (heldBy c (nodeOf before)) (rw (m .answered) at (m .left))
+  where
+    by : (recons held : Bool) → Left (cond recons (Refused OutOfPhase) (cond (not held) (Refused NotHeld) Accepted)) (weakenedBy c (nodeOf before)) before (r .node)
+        → nodeOf (r .node) ≡ cond (recons || not held) (nodeOf before) (weakenedBy c (nodeOf before))
+    by true held l = ap nodeOf l
+    by false true l = l
+    by false false l = ap nodeOf l
+
+pub made-spec : {M : Type 1} → statement M
+made-spec =
+    tie.close
+    (tie.spec
+    (λ c. search needs)
+    (λ c. search needs)
+    (λ c κs. search needs)
+    (λ c. search needs)
+    (λ c κs. search needs)
+    (λ c κs. search needs)
+    (λ c κs. search needs)
+    (λ c. search needs)
+    (λ c κs. search needs)
+    (λ c. rw (c .enum-told .given .1))
+    (λ c. rw (c .before .before .before .self .given .1) (after-step (c .before .expire .ensures)))
+    (λ c. rw (c .before .before .before .before .before .self2 .given .1)
+    (after-step (c .before .give-back .ensures) ∙ rw (c .before .before .old-lmode .ensures, c .before .before .before .was-exp .ensures)))
+    (λ c. rw (c .before .before .before .self3 .given .1) (after-weaken _ (c .before .weaken .ensures))))

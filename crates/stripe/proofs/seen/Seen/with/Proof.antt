@@ -1,0 +1,13 @@
+-- The tests of one node more. Assumes nothing.
+use borrow.Author.Needs.{needs}
+use Rattle.stripe.proofs.seen.Seen.with.Statement.{statement}
+use Rattle.stripe.proofs.seen.Seen.with.Tie as tie
+
+pub with-spec : {M : Type 1} → statement M
+with-spec =
+    tie.close
+    (tie.spec
+    (λ c κs. search needs)
+    (λ c κs. search needs)
+    (λ c κs. search needs)
+    (λ c. let held = c .before .before .before in rw (held .before .before .is-within .ensures, held .held-by .ensures, c .before .is-recons .ensures)))
