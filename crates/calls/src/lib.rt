@@ -1,20 +1,56 @@
-// The calls by their numbers: a client, then a position or a node. The bytes of a swap or a failure are beside the call.
+// What is asked of a stripe and what is answered: the calls by family, the answers, and what the calls at one node hand back with them.
+// The types are here; their methods are in a file for each.
+mod answers; // answers.rt: the answers
+mod asked; // asked.rt: what a call is lent
 
+use records::ClientCall;
+use records::ClientRecord;
+use records::NodeCall;
+use records::NodeRecord;
+use records::Refusal;
+
+// The calls, by what they step: a read and a pick apart, every other call steps the record of one node and that of its client. The numbers are a
+// client, then a position or a node; the bytes of a swap or a failure are beside the call.
 pub enum Call {
     Read(u8),
-    Swap(u8, u8),
-    Add(u8, u8),
-    Check(u8, u8),
-    Drop(u8),
-    Sweep(u8),
-    Stop(u8),
-    Fail(u8),
-    Lock(u8),
     Pick(u8),
-    Weaken(u8),
-    Tighten(u8),
-    Write(u8),
-    Settle(u8),
-    Unlock(u8),
-    Quit(u8),
+    Step(StepCall),
+}
+
+pub enum StepCall {
+    Swap(u8, u8),
+    Fail(u8),
+    At(NodeCall, u8, u8),
+    By(ClientCall, u8),
+}
+
+// What a call is answered. The first eight are accepted: Shown is a read's, Added and Done an add's, the next three a check's, Rebuilt that of the
+// settle that finishes a rebuild.
+pub enum Answer {
+    Accepted,
+    Shown,
+    Added,
+    Done,
+    CheckInit,
+    CheckGc,
+    NoChange,
+    Rebuilt,
+    Refused(Refusal),
+}
+
+// What a call at one node hands back with its answer: the records of the node and of the client; of the client alone; of the node alone.
+pub struct AtNode {
+    pub answer: Answer,
+    pub node: NodeRecord,
+    pub client: ClientRecord,
+}
+
+pub struct OfClient {
+    pub answer: Answer,
+    pub client: ClientRecord,
+}
+
+pub struct OfNode {
+    pub answer: Answer,
+    pub node: NodeRecord,
 }

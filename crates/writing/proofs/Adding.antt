@@ -9,6 +9,7 @@ use lib.ListN.{length}
 use Rattle.blocks.specs.Blocks.{block, setBlock, addTimes}
 use Rattle.code.specs.Code.{coefficient}
 use Rattle.code.specs.Decode.{has, including}
+use Rattle.code.specs.View.{nodeSetOf}
 use Rattle.records.specs.declared.Sizes.{Sizes}
 use Rattle.records.specs.declared.Write.{Write}
 use Rattle.records.specs.declared.Hand.the-variants.{Empty, Holding}
@@ -27,10 +28,10 @@ use Rattle.records.specs.NodeSteps.{enterAnswer, afterPrevious, addAnswer}
 use Rattle.records.specs.View.{writeOf, clientOf}
 use Rattle.machine.specs.Stripe.{Outcome, Local, Added, Done, answered, refused, guard}
 use Rattle.machine.specs.Writing.{isComplete, withDone, addedTo, addEnter, addAfter, addWrite}
-use Rattle.answers.specs.declared.Answer.{Answer}
-use Rattle.answers.specs.declared.Answer.the-variants as Answer
-use Rattle.answers.specs.Answers.{answerOf, Left, Meets, local}
-use Rattle.entrance.proofs.NodeAnswers.{seen, seen-test}
+use Rattle.calls.specs.declared.Answer.{Answer}
+use Rattle.calls.specs.declared.Answer.the-variants as Answer
+use Rattle.calls.specs.Answers.{answerOf, Left, Meets, local}
+use Rattle.limits.proofs.NodeAnswers.{seen, seen-test}
 
 pub add-empty : (z : Sizes) (c j : ℕ) (client : ClientRecord) (l : Local) → client .hand ≡ Empty → refused OutOfPhase l ≡ addWrite z c j (clientOf client .hand) l
 unfolding addWrite
@@ -40,16 +41,16 @@ module _ (z : Sizes) (c j : ℕ) (client : ClientRecord) (w : Write) (l : Local)
   -- ---- what an accepted add leaves: the client by whether the write is complete
 
   abbrev write : Client.Write
-  write = writeOf w (client .done)
+  write = writeOf w
 
   abbrev complete : Bool
-  complete = isComplete z (w .id .position) (including j (client .done .has))
+  complete = isComplete z (w .id .position) (including j (nodeSetOf (w .done)))
 
   abbrev done : Client.Client
   done = finishedWrite (w .id) (l .client)
 
   abbrev more : Client.Client
-  more = withHand (some (withDone write (including j (client .done .has)))) (l .client)
+  more = withHand (some (withDone write (including j (nodeSetOf (w .done))))) (l .client)
 
   abbrev taken : Outcome Local
   taken = cond complete (answered Done (addedTo z c j write done l)) (answered Added (addedTo z c j write more l))
@@ -77,11 +78,11 @@ module _ (z : Sizes) (c j : ℕ) (client : ClientRecord) (w : Write) (l : Local)
       ∙ ap (guard (not (isListed x (l .node .entries))) (BeforePrevious x) l) enter-seen
 
   module _ (held : client .hand ≡ Holding w) where
-    pub add-done : has (client .done .has) j ≡ true → refused OutOfPhase l ≡ addWrite z c j (clientOf client .hand) l
+    pub add-done : has (nodeSetOf (w .done)) j ≡ true → refused OutOfPhase l ≡ addWrite z c j (clientOf client .hand) l
     unfolding addWrite guard
     add-done e = rw (held, e)
 
-    module _ (todo : has (client .done .has) j ≡ false) {told : NodeAnswer} (e : told ≡ addAnswer w (l .node)) where
+    module _ (todo : has (nodeSetOf (w .done)) j ≡ false) {told : NodeAnswer} (e : told ≡ addAnswer w (l .node)) where
       answer-seen : {answer : NodeAnswer} → told ≡ answer → seen l taken answer ≡ addWrite z c j (clientOf client .hand) l
       unfolding addWrite guard
       answer-seen q =

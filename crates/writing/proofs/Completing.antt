@@ -1,36 +1,14 @@
--- The nodes done of a write in hand: after one joins them, and whether they are all that the write needs. Assumes nothing.
-use mathlib.Core.Path.{_≡_, refl, sym, ap}
+-- The loop over the redundant nodes that asks whether a write is done at all of them. Assumes nothing.
+use mathlib.Core.Path.{_≡_, refl, sym}
 use mathlib.Core.Bool.{Bool, true, false, _||_, or-true}
-use mathlib.Core.Option.{some}
 use Prim.Native.Nat.{ℕ, zero, suc, _+_, _≤_, _<_}
 use native.Mathlib.Numerals.{add-one}
 use native.Mathlib.Omega.{arith}
 use lib.Dec.{leb}
 use borrow.Author.Tests.{le-leb, lt-leb}
 use Rattle.gf256.proofs.Computed.{never-both}
-use Rattle.code.specs.declared.nodes.NodeSet as Declared
 use Rattle.code.specs.Decode.{NodeSet, has, each}
-use Rattle.records.specs.declared.ClientRecord.{ClientRecord}
-use Rattle.records.specs.declared.Hand.{Hand}
-use Rattle.records.specs.declared.Hand.the-variants.{Empty, Holding}
-use Rattle.records.specs.declared.Write.{Write}
-use Rattle.records.specs.Client as Client
-use Rattle.records.specs.Client.{withHand}
-use Rattle.records.specs.View.{writeOf, handOf, clientOf}
 use Rattle.machine.proofs.Sets.{each-at}
-
--- ---- a node joins
-
-hand-done : (h : Hand) (done : Declared.NodeSet) (w : Client.Write) → handOf h done ≡ some w → done .has ≡ w .done
-hand-done Empty done w e = let z : _≡_ {A = ℕ} 0 1 = cc in absurd (omega arith)
-hand-done (Holding v) done w e = let same : writeOf v done ≡ w = cc in ap (λ (x : Client.Write). x .done) same
-
-pub joined-done : (client joined : ClientRecord) (w : Write) (done : Declared.NodeSet) → client .hand ≡ Holding w
-    → clientOf joined ≡ withHand (handOf (client .hand) done) (clientOf client) → joined .done .has ≡ done .has
-joined-done client joined w done held e =
-    hand-done (joined .hand) (joined .done) (writeOf w done) (rw held at (ap (λ (x : Client.Client). x .hand) e))
-
--- ---- the loop over the redundant nodes
 
 abbrev test : ℕ → NodeSet → ℕ → Bool
 test k s m = leb m k || has s m

@@ -1,4 +1,5 @@
 pub mod Adding
+pub mod Checking
 pub mod Completing
 pub mod Ready
 pub mod Swapping

@@ -19,14 +19,14 @@ use Rattle.records.specs.Node.{idWithin, nodeWithin}
 use Rattle.records.specs.Client.{handWithin, clientWithin}
 use Rattle.records.specs.View.{idsOf, nodeOf, writeOf, clientOf}
 use Rattle.machine.specs.Stripe.{blocksFit}
-use Rattle.answers.specs.Answers.{local}
+use Rattle.calls.specs.Answers.{local}
 use Rattle.records.proofs.Lists.{ids-count}
-use Rattle.entrance.proofs.Limits.{code-sizes, range-low, block-in}
-use Rattle.entrance.proofs.Within.{lent-within}
+use Rattle.limits.proofs.Limits.{code-sizes, range-low, block-in}
+use Rattle.limits.proofs.Within.{lent-within}
 use Rattle.writing.specs.Adding.{addWithin, Ready}
 
 module _ (z : Sizes) (client : ClientRecord) (w : Write) (held : client .hand ≡ Holding w) (e : clientWithin z (clientOf client) ≡ true) where
-  hand : handWithin z (some (writeOf w (client .done))) (idsOf (client .finished)) ≡ true
+  hand : handWithin z (some (writeOf w)) (idsOf (client .finished)) ≡ true
   unfolding clientWithin
   hand = rw held at (and-left (handWithin z (clientOf client .hand) (clientOf client .finished)) _ e)
 

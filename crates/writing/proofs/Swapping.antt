@@ -19,10 +19,10 @@ use Rattle.records.specs.NodeSteps.{refusing, swapAnswer}
 use Rattle.records.specs.Sizes.{sizesWithin, isPosition, isClient}
 use Rattle.machine.specs.Stripe.{Outcome, Local, refused, guard, blocksFit}
 use Rattle.machine.specs.Writing.{recordsFit, tablesFit, swapped, swap}
-use Rattle.answers.specs.declared.Answer.the-variants as Answers
-use Rattle.answers.specs.Answers.{Meets, local}
-use Rattle.entrance.proofs.Limits.{range-low, block-in, position-node}
-use Rattle.entrance.proofs.Returns.{accepted}
+use Rattle.calls.specs.declared.Answer.the-variants as Answers
+use Rattle.calls.specs.Answers.{Meets, local}
+use Rattle.limits.proofs.Limits.{range-low, block-in, position-node}
+use Rattle.limits.proofs.Returns.{accepted}
 
 abbrev pub isWithin : Sizes → List ℕ → Local → Bool
 isWithin z value l = sizesWithin z && (recordsFit z l && (tablesFit z l && eqb (length value) (z .b)))

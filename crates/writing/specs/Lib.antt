@@ -1,2 +1,3 @@
 pub mod Adding
 pub mod Reading
+pub mod Sweeping

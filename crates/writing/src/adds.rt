@@ -9,20 +9,21 @@ ghost use lib.ListN.{length};
 ghost use Rattle.blocks.specs.Blocks.{block, setBlock, addTimes};
 ghost use Rattle.code.specs.Code.{coefficient};
 ghost use Rattle.code.specs.Decode.{has, each, including};
+ghost use Rattle.code.specs.View.{nodeSetOf};
 ghost use Rattle.records.specs.Client.{withHand, finishedWrite, clientWithin};
 ghost use Rattle.records.specs.Node.{nodeWithin};
 ghost use Rattle.records.specs.Sizes.{sizesWithin, isRedundant, isClient};
 ghost use Rattle.records.specs.View.{nodeOf, writeOf, clientOf};
 ghost use Rattle.machine.specs.Writing;
 ghost use Rattle.machine.specs.Writing.{isComplete, withDone};
-ghost use Rattle.answers.specs.Answers.{Meets, local};
+ghost use Rattle.calls.specs.Answers.{Meets, local};
 ghost use Rattle.writing.specs.Adding.{Ready};
-use answers::Answer;
-use answers::AtNode;
-use answers::OfClient;
+use calls::Answer;
+use calls::AtNode;
+use calls::OfClient;
 use code::NodeSet;
-use entrance::at_node::are_records_within;
-use entrance::tables::are_tables;
+use limits::at_node::are_records_within;
+use limits::tables::are_tables;
 use records::ClientRecord;
 use records::Hand;
 use records::NodeAnswer;
@@ -54,7 +55,7 @@ fn is_in_range(z: Sizes, c: u8, j: u8) -> bool
 // Whether the set has every redundant node.
 fn has_redundant(z: Sizes, done: NodeSet) -> bool
     requires { ⌜ z .k ≤ z .n ⌝ }
-    ensures { λ r. ⌜ r ≡ each (z .n) (λ j. leb j (z .k) || has (done .has) j) ⌝ }
+    ensures { λ r. ⌜ r ≡ each (z .n) (λ j. leb j (z .k) || has (nodeSetOf done) j) ⌝ }
 {
     let n = z.n;
     let mut j = z.k;
@@ -70,22 +71,21 @@ fn has_redundant(z: Sizes, done: NodeSet) -> bool
 // Whether a write at position i is complete, by the nodes where it is done.
 fn is_complete(z: Sizes, i: u8, done: NodeSet) -> bool
     requires { ⌜ z .k ≤ z .n ⌝ }
-    ensures { λ r. ⌜ r ≡ isComplete z i (done .has) ⌝ }
+    ensures { λ r. ⌜ r ≡ isComplete z i (nodeSetOf done) ⌝ }
 {
     done.contains(i as usize) && has_redundant(z, done)
 }
 
 // Node j joins the nodes done; a write that is complete then leaves the hand, and its id joins the finished list.
 fn join(z: Sizes, j: u8, write: Write, client: ClientRecord) -> OfClient
-    requires { ⌜ (z .k ≤ z .n) × (client .hand ≡ Hand.Holding write) × (client .finished .count < 8) ⌝ }
-    ensures answer { λ r. ⌜ r .answer ≡ cond (isComplete z (write .id .position) (including j (client .done .has))) Answer.Done Answer.Added ⌝ }
-    ensures client { λ r. ⌜ clientOf (r .client) ≡ cond (isComplete z (write .id .position) (including j (client .done .has)))
+    requires { ⌜ (z .k ≤ z .n) × (client .finished .count < 8) ⌝ }
+    ensures answer { λ r. ⌜ r .answer ≡ cond (isComplete z (write .id .position) (including j (nodeSetOf (write .done)))) Answer.Done Answer.Added ⌝ }
+    ensures client { λ r. ⌜ clientOf (r .client) ≡ cond (isComplete z (write .id .position) (including j (nodeSetOf (write .done))))
         (finishedWrite (write .id) (clientOf client))
-        (withHand (some (withDone (writeOf write (client .done)) (including j (client .done .has)))) (clientOf client)) ⌝ }
+        (withHand (some (withDone (writeOf write) (including j (nodeSetOf (write .done))))) (clientOf client)) ⌝ }
 {
-    let joined = client.join(j);
-    let done = joined.done;
-    if is_complete(z, write.id.position, done) {
+    let done = write.done;
+    if is_complete(z, write.id.position, done.with(j as usize)) {
         let id = write.id;
         return OfClient {
             answer: Answer::Done,
@@ -94,7 +94,7 @@ fn join(z: Sizes, j: u8, write: Write, client: ClientRecord) -> OfClient
     }
     OfClient {
         answer: Answer::Added,
-        client: joined,
+        client: client.join(write, j),
     }
 }
 
@@ -127,7 +127,7 @@ fn add_write(
         (r .answer) [] (local (nodeOf (r .node)) (clientOf (r .client)) (now (blocks .exit)) (now (differences .entry)))
         ((r .node ≡ node) × (r .client ≡ client)) ⌝ }
 {
-    let done = client.done;
+    let done = write.done;
     if done.contains(j as usize) {
         return AtNode::refused(node, client, Refusal::OutOfPhase);
     }

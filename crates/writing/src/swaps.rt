@@ -13,11 +13,11 @@ ghost use Rattle.records.specs.Node.{nodeWithin};
 ghost use Rattle.records.specs.Sizes.{sizesWithin, isPosition, isClient};
 ghost use Rattle.records.specs.View.{nodeOf, clientOf};
 ghost use Rattle.machine.specs.Writing as Writing;
-ghost use Rattle.answers.specs.Answers.{Meets, local};
-use answers::Answer;
-use answers::AtNode;
-use entrance::at_node::are_records_within;
-use entrance::tables::are_tables;
+ghost use Rattle.calls.specs.Answers.{Meets, local};
+use calls::Answer;
+use calls::AtNode;
+use limits::at_node::are_records_within;
+use limits::tables::are_tables;
 use records::ClientRecord;
 use records::Ids;
 use records::NodeAnswer;
@@ -89,11 +89,7 @@ fn begin(id: WriteId, node: NodeRecord, client: ClientRecord) -> ClientRecord
 {
     let previous = node.entries.last_recent();
     let epoch = node.epoch;
-    client.begin(Write {
-        id: id,
-        previous: previous,
-        epoch: epoch,
-    })
+    client.begin(Write::new(id, previous, epoch))
 }
 
 // A value into data node i's block, its difference into client c's, and a new write in hand.

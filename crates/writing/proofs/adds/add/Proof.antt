@@ -4,10 +4,10 @@ use borrow.Author.Needs.{needs}
 use Rattle.records.specs.View.{nodeOf, clientOf}
 use Rattle.machine.specs.Stripe.{Local}
 use Rattle.machine.specs.Writing as Writing
-use Rattle.answers.specs.Answers.{local}
+use Rattle.calls.specs.Answers.{local}
 use Rattle.writing.specs.Adding.{addWithin}
 use Rattle.writing.proofs.Adding.{add-empty}
-use Rattle.entrance.proofs.Returns.{guards, holds, refused-at-node}
+use Rattle.limits.proofs.Returns.{guards, holds, refused-at-node}
 use Rattle.writing.proofs.Ready.{ready}
 use Rattle.writing.proofs.adds.add.Statement.{statement}
 use Rattle.writing.proofs.adds.add.Tie as tie

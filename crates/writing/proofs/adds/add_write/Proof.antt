@@ -3,19 +3,20 @@ use mathlib.Core.Path.{_≡_, sym, _∙_}
 use mathlib.Core.Bool.{false}
 use borrow.Author.Needs.{needs}
 use Rattle.code.specs.Decode.{has}
+use Rattle.code.specs.View.{nodeSetOf}
 use Rattle.records.specs.View.{nodeOf, clientOf}
 use Rattle.machine.specs.Stripe.{Local}
-use Rattle.answers.specs.Answers.{local}
+use Rattle.calls.specs.Answers.{local}
 use Rattle.writing.proofs.Adding.{add-done, add-refused, add-accepted}
-use Rattle.entrance.proofs.NodeAnswers.{stepped}
-use Rattle.entrance.proofs.Returns.{refused-at-node}
+use Rattle.limits.proofs.NodeAnswers.{stepped}
+use Rattle.limits.proofs.Returns.{refused-at-node}
 use Rattle.writing.proofs.adds.add_write.Statement.{statement}
 use Rattle.writing.proofs.adds.add_write.Tie as tie
 
 abbrev lent : tie.Start → Local
 lent s = let a = s .args in local (nodeOf (a .node)) (clientOf (a .client)) (a .blocks .now) (a .differences .now)
 
-todo : (c : tie.Else1) → let a = c .before .before .before .before .before .args in has (a .client .done .has) (a .j) ≡ false
+todo : (c : tie.Else1) → let a = c .before .before .before .before .before .args in has (nodeSetOf (a .write .done)) (a .j) ≡ false
 todo c = sym (c .before .contains .ensures) ∙ c .if1 .left
 
 returns : tie.Need-returns

@@ -3,12 +3,13 @@ use mathlib.Core.Path.{sym, _∙_}
 use Prim.Native.Nat.{_-_}
 use borrow.Author.Needs.{needs}
 use borrow.Author.Tests.{not-true, not-false}
+use Rattle.code.specs.View.{nodeSetOf}
 use Rattle.writing.proofs.Completing.{Had, had-start, had-on, had-hit, had-end}
 use Rattle.writing.proofs.adds.has_redundant.Statement.{statement}
 use Rattle.writing.proofs.adds.has_redundant.Tie as tie
 
 abbrev Inv-loop : tie.InvT-loop
-Inv-loop done n j₀ j = Had j₀ (done .has) j n
+Inv-loop done n j₀ j = Had j₀ (nodeSetOf done) j n
 
 abbrev μ-loop : tie.MeasureT-loop
 μ-loop done n j₀ j = n - j

@@ -8,8 +8,8 @@ use Rattle.records.specs.Sizes.{sizesWithin}
 use Rattle.records.specs.View.{nodeOf}
 use Rattle.machine.specs.Stripe.{blocksFit}
 use Rattle.machine.specs.Writing as Writing
-use Rattle.entrance.proofs.Limits.{range-low, block-in, position-node}
-use Rattle.entrance.proofs.Returns.{holds, guards}
+use Rattle.limits.proofs.Limits.{range-low, block-in, position-node}
+use Rattle.limits.proofs.Returns.{holds, guards}
 use Rattle.writing.proofs.reads.read.Statement.{statement}
 use Rattle.writing.proofs.reads.read.Tie as tie
 

@@ -9,4 +9,5 @@ begin-spec =
     (tie.spec
     (λ c κs. search needs)
     (λ c κs. search needs)
-    (λ c. rw (c .begin .ensures, c .before .before .last-recent .ensures)))
+    (λ c κs. search needs)
+    (λ c. rw (c .begin .ensures, c .before .new .ensures, c .before .before .before .last-recent .ensures)))

@@ -4,8 +4,8 @@ use borrow.Author.Needs.{needs}
 use Rattle.records.specs.View.{nodeOf, clientOf}
 use Rattle.records.proofs.Lists.{ids-count, entries-count}
 use Rattle.machine.specs.Writing as Writing
-use Rattle.answers.specs.Answers.{local}
-use Rattle.entrance.proofs.Returns.{holds, guards, refused-at-node}
+use Rattle.calls.specs.Answers.{local}
+use Rattle.limits.proofs.Returns.{holds, guards, refused-at-node}
 use Rattle.writing.proofs.Swapping.{isWithin, Ready, swap-refused, swap-full, swap-exhausted, swap-accepted, value-long, position-low, block-there, client-low, difference-there, entries-few}
 use Rattle.writing.proofs.swaps.swap.Statement.{statement}
 use Rattle.writing.proofs.swaps.swap.Tie as tie

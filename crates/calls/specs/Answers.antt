@@ -1,0 +1,52 @@
+-- How the answers of the code are seen as those of document 01, and what the contract of a call says. Assumes nothing.
+use mathlib.Core.Bool.{Bool, false, cond, not}
+use mathlib.Core.List.{List}
+use mathlib.Core.Path.{_≡_}
+use Prim.Native.Nat.{ℕ}
+use Rattle.machine.specs.Stripe as Stripe
+use Rattle.machine.specs.Stripe.{Outcome, answered, Local, Whole}
+use Rattle.records.specs.Refusals.{changes}
+use Rattle.records.specs.Node.{Node}
+use Rattle.records.specs.Client.{Client}
+use Rattle.calls.specs.declared.Answer.{Answer}
+use Rattle.calls.specs.declared.Answer.the-variants.{Accepted, Shown, Added, Done, CheckInit, CheckGc, NoChange, Rebuilt, Refused}
+
+-- `shown` is what a read put into the caller's buffer
+abbrev pub answerOf : Answer → List ℕ → Stripe.Answer
+answerOf Accepted shown = Stripe.Accepted
+answerOf Shown shown = Stripe.Shown shown
+answerOf Added shown = Stripe.Added
+answerOf Done shown = Stripe.Done
+answerOf CheckInit shown = Stripe.CheckInit
+answerOf CheckGc shown = Stripe.CheckGc
+answerOf NoChange shown = Stripe.NoChange
+answerOf Rebuilt shown = Stripe.Rebuilt
+answerOf (Refused why) shown = Stripe.Refused why
+
+-- "unchanged": a refusal but 9 and 10
+abbrev pub isUnchanged : Answer → Bool
+isUnchanged Accepted = false
+isUnchanged Shown = false
+isUnchanged Added = false
+isUnchanged Done = false
+isUnchanged CheckInit = false
+isUnchanged CheckGc = false
+isUnchanged NoChange = false
+isUnchanged Rebuilt = false
+isUnchanged (Refused why) = not (changes why)
+
+-- `same` says that the very records are handed back: only such a refusal must
+abbrev pub Left : Answer → Type 0 → Type 0
+Left answer same = cond (isUnchanged answer) same (Unit {0})
+
+-- the outcome of the machine is the code's answer and what the code leaves, seen as the machine's records and tables
+pub record Meets {S : Type 0} (outcome : Outcome S) (answer : Answer) (shown : List ℕ) (after : S) (same : Type 0) : Type 0 where
+  pub said : answered (answerOf answer shown) after ≡ outcome
+  pub left : Left answer same
+
+-- what a call at one node is lent, and what a call on the whole stripe is lent
+abbrev pub local : Node → Client → List ℕ → List ℕ → Local
+local node client blocks differences = record { node = node; client = client; blocks = blocks; differences = differences }
+
+abbrev pub whole : List Node → Client → List ℕ → List ℕ → Whole
+whole nodes client blocks spare = record { nodes = nodes; client = client; blocks = blocks; spare = spare }

@@ -1,0 +1,4 @@
+pub mod Limits
+pub mod NodeAnswers
+pub mod Returns
+pub mod Within

@@ -1,3 +1,0 @@
-pub mod PickedSets
-pub mod Picking
-pub mod Tabled

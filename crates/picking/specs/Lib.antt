@@ -1,2 +1,0 @@
-pub mod Picking
-pub mod Tables

@@ -1,0 +1,6 @@
+pub mod Limits
+pub mod Stepping
+pub mod Phases
+pub mod Tabled
+pub mod PickedSets
+pub mod Picking

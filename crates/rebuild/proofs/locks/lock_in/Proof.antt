@@ -1,0 +1,41 @@
+-- By the phase. Assumes nothing.
+use borrow.Author.Needs.{needs}
+use Rattle.blocks.specs.Blocks.{listOf}
+use Rattle.blocks.proofs.Tables.{length-listOf}
+use Rattle.machine.specs.Rebuild.{lockIn}
+use Rattle.records.proofs.Limits.{nodes-few}
+use Rattle.rebuild.proofs.Limits.{sizes-known}
+use Rattle.rebuild.proofs.Phases.{locking, not-locking}
+use Rattle.rebuild.proofs.Stepping.{steps-refused, steps-as}
+use Rattle.rebuild.proofs.locks.lock_in.Statement.{statement}
+use Rattle.rebuild.proofs.locks.lock_in.Tie as tie
+
+lock-node-requires : tie.Need-lock-node-requires
+unfolding listOf
+lock-node-requires c κs =
+    let told = c .before in
+    let known = sizes-known _ (told .before .before .pre .sizes) in
+    (known .nodes-most, (known .nodes-least, (rw (told .enum-told .given .1), rw (told .enum-told .given .1))))
+
+lock-node-requires-2 : tie.Need-lock-node-requires-2
+lock-node-requires-2 c κs =
+    let s = c .before .before .before in
+    let p = c .before .phase .given .1 in
+    (nodes-few _ (s .pre .sizes), (locking (s .pre) p, (rw p, rw (p, length-listOf (c .before .phase .given .0 .0) _))))
+
+pub lock-in-spec : {M : Type 1} → statement M
+unfolding lockIn
+lock-in-spec =
+    tie.close
+    (tie.spec
+    (λ c. search needs)
+    (λ c κs. search needs)
+    lock-node-requires
+    (λ c. search needs)
+    lock-node-requires-2
+    (λ c κs. search needs)
+    (λ c nodes blocks spare t. steps-as t (c .lock-node .ensures nodes blocks spare t) (rw (c .before .before .enum-told .given .1)))
+    (λ c nodes blocks spare t. steps-as t (c .lock-node2 .ensures nodes blocks spare t) (rw (c .before .before .phase .given .1)))
+    (λ c nodes blocks spare t.
+    let a = c .before .before .args in
+    steps-refused t (c .refused .ensures) (not-locking (a .z) (a .c) _ (a .client .phase) (c .before .match .keys3))))

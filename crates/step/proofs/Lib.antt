@@ -1,0 +1,4 @@
+pub mod Items
+pub mod Playing
+pub mod Records
+pub mod Shapes

@@ -1,0 +1,66 @@
+-- By cases of the call, a lemma for each shape. Assumes nothing.
+use mathlib.Core.Path.{refl}
+use borrow.Author.Needs.{needs}
+use Rattle.machine.specs.Calls.{step, stepAt}
+use Rattle.machine.specs.Writing as Writing
+use Rattle.machine.specs.Failure as Failure
+use Rattle.step.proofs.Shapes.{steps-kept, of-node}
+use Rattle.step.proofs.steps.step.Statement.{statement}
+use Rattle.step.proofs.steps.step.Tie as tie
+
+returns : tie.Need-returns
+unfolding step
+returns c =
+    let args = c .before .before .before .before .before .before .before .before .before .before .before .before .before .before .before .args in
+    rw (c .before .before .before .before .before .before .before .before .before .call .given .1)
+    (steps-kept (args .z) _ (args .seen) (args .node) (args .client) (args .value .now) (args .blocks .now) (args .spare .now) (args .differences .now) _ _ _
+    (Writing.swap (args .z) _ _ (args .value .now)) (λ s. refl) (c .kept .ensures) (c .before .before .before .before .before .swap .ensures))
+
+returns-2 : tie.Need-returns-2
+unfolding step
+returns-2 c =
+    let args = c .before .before .before .before .before .before .before .before .before .before .before .before .before .args in
+    rw (c .before .before .before .before .before .before .before .call2 .given .1)
+    (steps-kept (args .z) _ (args .seen) (args .node) (args .client) (args .value .now) (args .blocks .now) (args .spare .now) (args .differences .now) _ _ _
+    (Failure.fail (args .z) _ (args .value .now)) (λ s. refl) (c .kept2 .ensures) (of-node (c .before .failed .ensures) (c .before .before .before .before .fail .ensures _ _)))
+
+returns-3 : tie.Need-returns-3
+unfolding step
+returns-3 c =
+    let args = c .before .before .before .before .before .before .before .before .before .before .before .before .before .args in
+    let told = c .before .before .before .before .before .before .before .call3 .given .0 in
+    rw (c .before .before .before .before .before .before .before .call3 .given .1)
+    (steps-kept (args .z) _ (args .seen) (args .node) (args .client) (args .value .now) (args .blocks .now) (args .spare .now) (args .differences .now) _ _ _
+    (stepAt (told .0) (args .z) (told .1 .0) (told .1 .1 .0)) (λ s. refl) (c .kept3 .ensures) (c .before .before .before .at-node .ensures))
+
+returns-4 : tie.Need-returns-4
+returns-4 c =
+    let args = c .before .before .before .before .before .before .before .before .before .before .before .args in
+    rw (c .before .before .before .before .before .call4 .given .1) (c .before .before .by-client .ensures (args .value .now) (args .differences .now))
+
+pub step-spec : {M : Type 1} → statement M
+step-spec =
+    tie.close
+    (tie.spec
+    (λ c. search needs)
+    (λ c κs. search needs)
+    (λ c κs. search needs)
+    (λ c. search needs)
+    (λ c κs. search needs)
+    (λ c κs. search needs)
+    (λ c κs. search needs)
+    (λ c. search needs)
+    (λ c κs. search needs)
+    (λ c κs. search needs)
+    (λ c. search needs)
+    (λ c κs. search needs)
+    (λ c. search needs)
+    (λ c. search needs)
+    returns
+    (λ c. search needs)
+    returns-2
+    (λ c. search needs)
+    (λ c. search needs)
+    returns-3
+    (λ c. search needs)
+    returns-4)
