@@ -1,3 +1,0 @@
-pub mod Entry
-pub mod Step
-pub mod Table

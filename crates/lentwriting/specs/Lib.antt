@@ -1,4 +1,0 @@
-pub mod Entry
-pub mod Lent
-pub mod Step
-pub mod Table

@@ -1,0 +1,7 @@
+pub mod All
+pub mod Cases
+pub mod Entered
+pub mod Lists
+pub mod OneStep
+pub mod Tables
+pub mod Types

@@ -1,0 +1,104 @@
+-- The records and the tables of this crate, as the laws of `lent` take them. Assumes nothing.
+use mathlib.Core.List.{[], _∷_}
+use mathlib.Core.Path.{refl, ap}
+use mir.Syntax.{w8, w64}
+use denote.Builtin.{u8, usize}
+use denote.Steps.{only}
+use denote.Struct.Laws as struct
+use Rattle.calls.proofs.Answer as answer
+use Rattle.calls.proofs.Answer.Laws as answer-laws
+use Rattle.lent.proofs.Elem.{Rec, rec-struct, rec-enum, rec-uint}
+use Rattle.lent.proofs.Side.{Side, Back, Both}
+use Rattle.records.proofs.ClientRecord as client
+use Rattle.records.proofs.ClientRecord.Laws as client-laws
+use Rattle.records.proofs.NodeRecord as node
+use Rattle.records.proofs.NodeRecord.Laws as node-laws
+use Rattle.shelf.specs.Picks.{AllTook}
+use Rattle.shelf.specs.Table.{ClientTaken, NodeFound, PutBack, PutClient}
+use Rattle.shelf.proofs.AllTaken as all
+use Rattle.shelf.proofs.AllTaken.Laws as all-laws
+use Rattle.shelf.proofs.Back as back
+use Rattle.shelf.proofs.Back.Laws as back-laws
+use Rattle.shelf.proofs.Found as found
+use Rattle.shelf.proofs.Found.Laws as found-laws
+use Rattle.shelf.proofs.PickRequest as pick-request
+use Rattle.shelf.proofs.PickRequest.Laws as pick-request-laws
+use Rattle.shelf.proofs.ReadRequest as read-request
+use Rattle.shelf.proofs.ReadRequest.Laws as read-request-laws
+use Rattle.shelf.proofs.Request as request
+use Rattle.shelf.proofs.Request.Laws as request-laws
+use Rattle.shelf.proofs.Sought as sought
+use Rattle.shelf.proofs.Sought.Laws as sought-laws
+use Rattle.shelf.proofs.Returned as returned
+use Rattle.shelf.proofs.Returned.Laws as returned-laws
+use Rattle.shelf.proofs.TakenClient as taken
+use Rattle.shelf.proofs.TakenClient.Laws as taken-laws
+
+abbrev pub node-rec : Rec node.the-row
+node-rec = rec-struct node.the-type node-laws.the-laws node-laws.the-copy node-laws.the-plain (λ _. tt) (λ _ _. refl)
+
+abbrev pub client-rec : Rec client.the-row
+client-rec = rec-struct client.the-type client-laws.the-laws client-laws.the-copy client-laws.the-plain (λ _. tt) (λ _ _. refl)
+
+abbrev pub request-rec : Rec request.the-row
+request-rec = rec-struct request.the-type request-laws.the-laws request-laws.the-copy request-laws.the-plain (λ _. tt) (λ _ _. refl)
+
+abbrev pub read-request-rec : Rec read-request.the-row
+read-request-rec = rec-struct read-request.the-type read-request-laws.the-laws read-request-laws.the-copy read-request-laws.the-plain (λ _. tt) (λ _ _. refl)
+
+abbrev pub pick-request-rec : Rec pick-request.the-row
+pick-request-rec = rec-struct pick-request.the-type pick-request-laws.the-laws pick-request-laws.the-copy pick-request-laws.the-plain (λ _. tt) (λ _ _. refl)
+
+abbrev pub all-rec : Rec all.the-row
+all-rec = rec-struct all.the-type all-laws.the-laws all-laws.the-copy all-laws.the-plain (λ _. tt) (λ _ _. refl)
+
+abbrev pub sought-rec : Rec sought.the-row
+sought-rec = rec-struct sought.the-type sought-laws.the-laws sought-laws.the-copy sought-laws.the-plain (λ _. tt) (λ _ _. refl)
+
+abbrev pub found-rec : Rec found.the-row
+found-rec = rec-struct found.the-type found-laws.the-laws found-laws.the-copy found-laws.the-plain (λ _. tt) (λ _ _. refl)
+
+abbrev pub taken-rec : Rec taken.the-row
+taken-rec = rec-struct taken.the-type taken-laws.the-laws taken-laws.the-copy taken-laws.the-plain (λ _. tt) (λ _ _. refl)
+
+abbrev pub back-rec : Rec back.the-row
+back-rec = rec-struct back.the-type back-laws.the-laws back-laws.the-copy back-laws.the-plain (λ _. tt) (λ _ _. refl)
+
+abbrev returned-rec : Rec returned.the-row
+returned-rec = rec-struct returned.the-type returned-laws.the-laws returned-laws.the-copy returned-laws.the-plain (λ _. tt) (λ _ _. refl)
+
+abbrev pub answer-rec : Rec answer.the-row
+answer-rec = rec-enum answer.the-type answer-laws.the-laws answer-laws.the-copy answer-laws.the-plain tt (λ _. tt) (λ _ _. refl)
+
+abbrev pub returned-both : Both back.the-row taken.the-row answer.the-row returned.the-row back-rec taken-rec answer-rec
+returned-both = record {
+  name = returned.struct .name;
+  first = λ r. r .back;
+  second = λ r. r .client;
+  answer = λ r. r .answer;
+  apart = λ r w is.
+      let fields = struct.owed returned.the-type returned-laws.the-laws r _ is in
+      (ap only (returned-rec .tells r (w ∷ []) is), (fields .0, (fields .1 .0, fields .1 .1 .0)));
+  typed = λ 𝓤 H A W r w is. returned-rec .typed 𝓤 H A W r w is;
+}
+
+-- the table of the nodes: what is looked for, what is found, and what is put back
+abbrev pub nodes : Side
+nodes = record { S = node.the-row; P = sought.the-row; X = found.the-row; s = node-rec; p = sought-rec; x = found-rec; Took = NodeFound }
+
+abbrev pub nodes-back : Back nodes
+nodes-back = record { Y = back.the-row; y = back-rec; Puts = PutBack }
+
+-- the same for a pick, which takes all records out
+abbrev pub all-nodes : Side
+all-nodes = record { S = node.the-row; P = usize; X = all.the-row; s = node-rec; p = rec-uint w64; x = all-rec; Took = AllTook }
+
+abbrev pub all-nodes-back : Back all-nodes
+all-nodes-back = record { Y = back.the-row; y = back-rec; Puts = PutBack }
+
+-- the table of the clients
+abbrev pub clients : Side
+clients = record { S = client.the-row; P = u8; X = taken.the-row; s = client-rec; p = rec-uint w8; x = taken-rec; Took = ClientTaken }
+
+abbrev pub clients-back : Back clients
+clients-back = record { Y = taken.the-row; y = taken-rec; Puts = PutClient }

@@ -1,0 +1,66 @@
+// The entry points. Each is walked by a law.
+ghost use Rattle.shelf.specs.Shelf.{Picks, Steps, Reads};
+use crate::PickRequest;
+use crate::ReadRequest;
+use crate::Request;
+use crate::table::look;
+use crate::table::put_back;
+use crate::table::put_client;
+use crate::table::take_all;
+use crate::table::take_client;
+use calls::Answer;
+use records::ClientRecord;
+use records::NodeRecord;
+
+// Every call but read and pick.
+pub fn step(
+    nodes: &mut [NodeRecord],
+    clients: &mut [ClientRecord],
+    blocks: &mut [u8],
+    spare: &mut [u8],
+    differences: &mut [u8],
+    value: &[u8],
+    request: Request,
+) -> Answer
+    ensures { λ r. ⌜ Steps (now (nodes .entry)) (now (clients .entry)) (now (blocks .entry)) (now (spare .entry)) (now (differences .entry))
+        (now (value .entry)) request r (now (nodes .exit)) (now (clients .exit)) (now (blocks .exit)) (now (spare .exit)) (now (differences .exit)) ⌝ }
+{
+    let c = request.client();
+    let client = take_client(clients, c);
+    let sought = client.sought(request);
+    let found = look(nodes, sought);
+    let r = found.step(client, blocks, spare, differences, value, request);
+    put_back(nodes, r.back);
+    put_client(clients, r.client);
+    r.answer
+}
+
+// The block of data node i, into out.
+pub fn read(nodes: &[NodeRecord], out: &mut [u8], blocks: &[u8], request: ReadRequest) -> Answer
+    ensures { λ r. ⌜ Reads (now (nodes .entry)) (now (out .entry)) (now (blocks .entry)) request r (now (out .exit)) ⌝ }
+{
+    let sought = request.sought();
+    let found = look(nodes, sought);
+    found.read(out, blocks, request)
+}
+
+// The codeword decoded from the largest set that fits, into the spare.
+pub fn pick(
+    nodes: &mut [NodeRecord],
+    clients: &mut [ClientRecord],
+    spare: &mut [u8],
+    blocks: &[u8],
+    request: PickRequest,
+) -> Answer
+    ensures { λ r. ⌜ Picks (now (nodes .entry)) (now (clients .entry)) (now (spare .entry)) (now (blocks .entry)) request r
+        (now (nodes .exit)) (now (clients .exit)) (now (spare .exit)) ⌝ }
+{
+    let c = request.client();
+    let client = take_client(clients, c);
+    let n = client.all(request);
+    let taken = take_all(nodes, n);
+    let r = taken.pick(client, spare, blocks, request);
+    put_back(nodes, r.back);
+    put_client(clients, r.client);
+    r.answer
+}

@@ -1,0 +1,138 @@
+// A pick, on the records of all nodes by value.
+ghost use mathlib.Core.Bool.{cond, _&&_};
+ghost use mathlib.Core.Path.{_≡_};
+ghost use lib.Dec.{eqb, leb};
+ghost use Rattle.shelf.specs.Picks.{allBegun, allEnd, allSeen, AfterPick, PicksAll};
+use crate::AllTaken;
+use crate::Back;
+use crate::PickRequest;
+use crate::Returned;
+use crate::TakenClient;
+use calls::Answer;
+use rebuild::Picked;
+use records::NodeRecord;
+use records::Refusal;
+use records::Sizes;
+use stripe::Change;
+use stripe::Nodes;
+
+impl PickRequest {
+    pub(crate) fn client(self) -> u8
+        ensures { λ r. ⌜ r ≡ self .c ⌝ }
+    {
+        self.c
+    }
+}
+
+impl TakenClient {
+    // How many nodes there should be.
+    pub(crate) fn all(self, request: PickRequest) -> usize
+        ensures { λ r. ⌜ r ≡ request .z .n ⌝ }
+    {
+        let z = request.z;
+        z.n
+    }
+}
+
+impl AllTaken {
+    pub(crate) fn begin(n: usize, len: usize) -> Self
+        ensures { λ r. ⌜ allBegun n len r ⌝ }
+    {
+        let failed = NodeRecord::failed();
+        let items = [failed; 18];
+        let nodes = Nodes { items: items };
+        AllTaken {
+            len: len,
+            nodes: nodes,
+        }
+    }
+
+    pub(crate) fn first(self) -> usize
+        ensures { λ r. ⌜ r ≡ 0 ⌝ }
+    {
+        0
+    }
+
+    pub(crate) fn end(self) -> usize
+        ensures { λ r. ⌜ r ≡ allEnd self ⌝ }
+    {
+        if self.len <= 18 { self.len } else { 0 }
+    }
+
+    pub(crate) fn see(self, i: usize, node: NodeRecord) -> Self
+        ensures { λ r. ⌜ r ≡ allSeen self i node ⌝ }
+    {
+        if i >= 18 {
+            return self;
+        }
+        let mut nodes = self.nodes;
+        nodes.items[i] = node;
+        AllTaken {
+            len: self.len,
+            nodes: nodes,
+        }
+    }
+
+    fn fits(self, taken: TakenClient, z: Sizes) -> bool
+        ensures { λ r. ⌜ r ≡ (eqb (self .len) (z .n) && (eqb (taken .len) (z .m) && leb (z .n) 18)) ⌝ }
+    {
+        if self.len != z.n {
+            return false;
+        }
+        if taken.len != z.m {
+            return false;
+        }
+        z.n <= 18
+    }
+
+    // No node's own record is put back.
+    fn picked(self, taken: TakenClient, r: Picked) -> Returned
+        ensures { λ s. ⌜ AfterPick s self taken r ⌝ }
+    {
+        let answer = r.answer;
+        let client = r.client;
+        let change = r.change;
+        let node = NodeRecord::failed();
+        let back = Back {
+            j: 0,
+            len: self.len,
+            node: node,
+            change: change,
+        };
+        let taken = TakenClient {
+            c: taken.c,
+            len: taken.len,
+            client: client,
+        };
+        Returned {
+            back: back,
+            client: taken,
+            answer: answer,
+        }
+    }
+
+    pub(crate) fn pick(
+        self,
+        taken: TakenClient,
+        spare: &mut [u8],
+        blocks: &[u8],
+        request: PickRequest,
+    ) -> Returned
+        ensures { λ r. ⌜ PicksAll self taken (now (spare .entry)) (now (blocks .entry)) request r (now (spare .exit)) ⌝ }
+    {
+        let z = request.z;
+        let nodes = self.nodes;
+        let client = taken.client;
+        if !self.fits(taken, z) {
+            let change = Change::keep();
+            let none = Picked {
+                answer: Answer::Refused(Refusal::OutOfLimits),
+                client: client,
+                change: change,
+            };
+            return self.picked(taken, none);
+        }
+        let r = rebuild::pick(z, request.c, nodes, client, blocks, spare);
+        self.picked(taken, r)
+    }
+}

@@ -1,0 +1,81 @@
+// A table is looked at, and changed. Each of these is walked by a law.
+ghost use Rattle.shelf.specs.Picks.{AllTook};
+ghost use Rattle.shelf.specs.Table.{ClientTaken, NodeFound, PutBack, PutClient};
+use crate::AllTaken;
+use crate::Back;
+use crate::Found;
+use crate::Sought;
+use crate::TakenClient;
+use records::ClientRecord;
+use records::NodeRecord;
+
+pub(crate) fn take_client(clients: &[ClientRecord], c: u8) -> TakenClient
+    ensures { λ r. ⌜ ClientTaken (now (clients .entry)) c r ⌝ }
+{
+    let len = clients.len();
+    let mut taken = TakenClient::begin(c, len);
+    let mut i = taken.first();
+    let end = taken.end();
+    while i < end {
+        let client = clients[i];
+        taken = taken.see(i, client);
+        i = i + 1;
+    }
+    taken
+}
+
+pub(crate) fn put_client(clients: &mut [ClientRecord], taken: TakenClient)
+    ensures { λ _. ⌜ PutClient (now (clients .entry)) taken (now (clients .exit)) ⌝ }
+{
+    let len = clients.len();
+    let mut i = taken.first();
+    let end = taken.end_in(len);
+    while i < end {
+        let client = clients[i];
+        clients[i] = taken.at(i, client);
+        i = i + 1;
+    }
+}
+
+pub(crate) fn look(nodes: &[NodeRecord], sought: Sought) -> Found
+    ensures { λ r. ⌜ NodeFound (now (nodes .entry)) sought r ⌝ }
+{
+    let len = nodes.len();
+    let mut found = sought.begin(len);
+    let mut i = found.first();
+    let end = found.end();
+    while i < end {
+        let node = nodes[i];
+        found = found.see(i, node);
+        i = i + 1;
+    }
+    found
+}
+
+pub(crate) fn put_back(nodes: &mut [NodeRecord], back: Back)
+    ensures { λ _. ⌜ PutBack (now (nodes .entry)) back (now (nodes .exit)) ⌝ }
+{
+    let len = nodes.len();
+    let mut i = back.first();
+    let end = back.end_in(len);
+    while i < end {
+        let node = nodes[i];
+        nodes[i] = back.at(i, node);
+        i = i + 1;
+    }
+}
+
+pub(crate) fn take_all(nodes: &[NodeRecord], n: usize) -> AllTaken
+    ensures { λ r. ⌜ AllTook (now (nodes .entry)) n r ⌝ }
+{
+    let len = nodes.len();
+    let mut taken = AllTaken::begin(n, len);
+    let mut i = taken.first();
+    let end = taken.end();
+    while i < end {
+        let node = nodes[i];
+        taken = taken.see(i, node);
+        i = i + 1;
+    }
+    taken
+}
