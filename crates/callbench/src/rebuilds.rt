@@ -1,10 +1,15 @@
-// A whole rebuild, and a plain encoding of the same data to compare it with.
+// A whole rebuild.
 use crate::sizes;
-use entrance::OnStripe;
+use calls::Answer;
+use calls::Call;
+use calls::StepCall;
+use records::ClientCall;
 use records::ClientRecord;
 use records::NodeRecord;
 use records::Phase;
 use records::Sizes;
+use step::Played;
+use step::Stripe;
 use stripe::Nodes;
 
 // The locks, the pick, the writes, the settles and the unlocks.
@@ -22,24 +27,46 @@ fn failed() -> Nodes {
 }
 
 // Before the first call.
-fn begun() -> OnStripe {
+fn begun() -> Played {
+    let fresh = Stripe::fresh();
+    let clients = fresh.clients;
     let nodes = failed();
-    let client = ClientRecord::fresh();
-    OnStripe::accepted(nodes, client)
+    let stripe = Stripe { nodes, clients };
+    Played {
+        answer: Answer::Accepted,
+        stripe: stripe,
+    }
 }
 
 // The rebuild's next call, by its phase.
-fn call(z: Sizes, last: OnStripe, blocks: &mut [u8], spare: &mut [u8]) -> OnStripe {
-    let nodes = last.nodes;
-    let client = last.client;
+fn next(client: ClientRecord) -> Call {
     let phase = client.phase;
     match phase {
-        Phase::Picking(_) => picking::pick(z, 1, nodes, client, blocks, spare),
-        Phase::Writing(_, _) => picking::write(z, 1, nodes, client, blocks, spare),
-        Phase::Settling(_, _) => ending::settle(z, 1, nodes, client),
-        Phase::Unlocking(_) => locking::unlock(z, 1, nodes, client),
-        _ => locking::lock(z, 1, nodes, client),
+        Phase::Picking(_) => Call::Pick(1),
+        Phase::Writing(_, _, _) => Call::Step(StepCall::By(ClientCall::Write, 1)),
+        Phase::Settling(_, _) => Call::Step(StepCall::By(ClientCall::Settle, 1)),
+        Phase::Unlocking(_) => Call::Step(StepCall::By(ClientCall::Unlock, 1)),
+        _ => Call::Step(StepCall::By(ClientCall::Lock, 1)),
     }
+}
+
+fn call(z: Sizes, last: Played, blocks: &mut [u8], spare: &mut [u8]) -> Played {
+    let stripe = last.stripe;
+    let clients = stripe.clients;
+    let client = clients.get(1, 1);
+    let value = [0u8; 1];
+    let mut differences = [0u8; 1];
+    let mut shown = [0u8; 1];
+    step::play(
+        z,
+        next(client),
+        &value,
+        stripe,
+        blocks,
+        spare,
+        &mut differences,
+        &mut shown,
+    )
 }
 
 #[no_mangle]
@@ -50,11 +77,5 @@ pub extern "C" fn callbench_rebuild(b: usize, blocks: &mut [u8], spare: &mut [u8
         last = call(z, last, blocks, spare);
     }
     let answer = last.answer;
-    answer.number()
-}
-
-#[no_mangle]
-pub extern "C" fn callbench_encode(b: usize, data: &[u8], redundant: &mut [u8]) -> u8 {
-    let answer = code::encode(12, 18, b, data, redundant);
     answer.number()
 }

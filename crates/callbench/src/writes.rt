@@ -1,7 +1,7 @@
-// Swaps at node 1 and adds at node 13, and the block leaf of each.
+// Swaps at node 1 and adds at node 13.
 use crate::sizes;
-use answers::Answer;
-use answers::AtNode;
+use calls::Answer;
+use calls::AtNode;
 use records::ClientRecord;
 use records::Entries;
 use records::Epoch;
@@ -68,26 +68,6 @@ pub extern "C" fn callbench_swap(
     answer.number()
 }
 
-// The block leaf of a swap.
-#[no_mangle]
-pub extern "C" fn callbench_swap_leaf(
-    times: usize,
-    value: &[u8],
-    block: &mut [u8],
-    difference: &mut [u8],
-) -> u8 {
-    if block.len() != value.len() {
-        return 1;
-    }
-    if difference.len() != value.len() {
-        return 1;
-    }
-    for _ in 0..times {
-        blocks::swap(block, difference, value);
-    }
-    0
-}
-
 // The same of an add at node 13.
 fn add(z: Sizes, start: AtNode, last: AtNode, blocks: &mut [u8], differences: &[u8]) -> AtNode {
     let answer = last.answer;
@@ -106,11 +86,7 @@ fn writing_client() -> ClientRecord {
         position: 1,
         number: WriteNumber(0),
     };
-    ClientRecord::fresh().begin(Write {
-        id: id,
-        previous: Previous::Nothing,
-        epoch: Epoch(0),
-    })
+    ClientRecord::fresh().begin(Write::new(id, Previous::Nothing, Epoch(0)))
 }
 
 // A fresh node, and such a client.
@@ -139,17 +115,4 @@ pub extern "C" fn callbench_add(
     }
     let answer = last.answer;
     answer.number()
-}
-
-// The block leaf of an add.
-#[no_mangle]
-pub extern "C" fn callbench_add_leaf(times: usize, difference: &[u8], block: &mut [u8]) -> u8 {
-    if block.len() != difference.len() {
-        return 1;
-    }
-    let c = code::coefficient(13, 1);
-    for _ in 0..times {
-        blocks::add_times(block, difference, c);
-    }
-    0
 }

@@ -11,15 +11,15 @@ use lib.Seq.{length-take-le, take-suc, take-append-add, take-append-le}
 use borrow.Author.Tests.{ne-eqb}
 use Rattle.blocks.proofs.Tables.{length-listOf}
 use Rattle.machine.specs.Stripe.{Stripe, Answer}
-use Rattle.machine.specs.Calls.{Call, Read, Swap, Add, Check, Drop, Sweep, Stop, Fail, Lock, Pick, Weaken, Tighten, Write, Settle, Unlock, Quit}
-use Rattle.lines.specs.Lines.{call}
-use Rattle.lines.specs.Reading.{clipped, callIn, Holds, Takes, Ends}
-use Rattle.lines.specs.Writing.{Put}
-use Rattle.lines.specs.declared.reader.Line.{Line}
-use Rattle.lines.specs.declared.reader.LineReader.{LineReader}
-use Rattle.lines.proofs.Clipping.{Small, clip-call}
-use Rattle.player.specs.declared.Stripe as Player
-use Rattle.player.specs.View.{stripeOf}
+use Rattle.machine.specs.Calls.{Call, Read, Pick, Swap, Fail, At, By}
+use Rattle.script.specs.Lines.{call}
+use Rattle.script.specs.Reading.{clipped, callIn, Holds, Takes, Ends}
+use Rattle.script.specs.Writing.{Put}
+use Rattle.script.specs.declared.reader.Line.{Line}
+use Rattle.script.specs.declared.reader.LineReader.{LineReader}
+use Rattle.script.proofs.Clipping.{Small, clip-call}
+use Rattle.step.specs.declared.Stripe as Player
+use Rattle.step.specs.View.{stripeOf}
 use Rattle.shelfrun.specs.Shelfrun.{State, start, sizes, outcome, output, isBegun, lineOutput, byteOutput, byteLeft, outputOf, left, lastOutput, shelfrun}
 use Rattle.shelfrun.specs.Feeding.{Answers, Is, Kept, Keeps, Feeds, Reached}
 use Rattle.shelfrun.specs.declared.feeding.Shelf.{Shelf}
@@ -75,21 +75,11 @@ within-line {byte = byte} other t = record {
 clip-output : (n : ℕ) (x : Option Call) (a : Answer) → output n (clipped 1 x) a ≡ output n x a
 clip-output n none a = refl
 clip-output n (some (Read i)) a = refl
-clip-output n (some (Swap c i value)) a = refl
-clip-output n (some (Add c j)) a = refl
-clip-output n (some (Check c j)) a = refl
-clip-output n (some (Drop c)) a = refl
-clip-output n (some (Sweep c)) a = refl
-clip-output n (some (Stop c)) a = refl
-clip-output n (some (Fail j value)) a = refl
-clip-output n (some (Lock c)) a = refl
 clip-output n (some (Pick c)) a = refl
-clip-output n (some (Weaken c)) a = refl
-clip-output n (some (Tighten c)) a = refl
-clip-output n (some (Write c)) a = refl
-clip-output n (some (Settle c)) a = refl
-clip-output n (some (Unlock c)) a = refl
-clip-output n (some (Quit c)) a = refl
+clip-output n (some (Swap c i value)) a = refl
+clip-output n (some (Fail j value)) a = refl
+clip-output n (some (At op c j)) a = refl
+clip-output n (some (By op c)) a = refl
 
 clip-outcome : (x : Option Call) (s : Stripe) → Small sizes s → outcome (clipped 1 x) s ≡ outcome x s
 clip-outcome none s small = refl

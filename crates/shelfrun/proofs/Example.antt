@@ -12,7 +12,7 @@ use Rattle.records.specs.Client as Client
 use Rattle.machine.specs.Stripe as Stripe
 use Rattle.machine.specs.Writing as Writing
 use Rattle.machine.specs.Calls.{step}
-use Rattle.lines.specs.Lines as Lines
+use Rattle.script.specs.Lines as Lines
 use Rattle.shelfrun.specs.Shelfrun.{outputOf, left, shelfrun, exampleInput, exampleOutput}
 
 pub example : shelfrun exampleInput ≡ exampleOutput

@@ -12,17 +12,17 @@ use Rattle.machine.specs.Stripe.{Stripe, Outcome, answered, guard, number}
 use Rattle.machine.specs.Stripe as Machines
 use Rattle.machine.specs.Calls.{step}
 use Rattle.machine.specs.Calls as Machine
-use Rattle.answers.specs.declared.Answer.{Answer}
-use Rattle.answers.specs.declared.Answer.the-variants.{Accepted, Shown, Added, Done, CheckInit, CheckGc, NoChange, Rebuilt, Refused}
-use Rattle.answers.specs.Answers.{answerOf}
+use Rattle.calls.specs.declared.Answer.{Answer}
+use Rattle.calls.specs.declared.Answer.the-variants.{Accepted, Shown, Added, Done, CheckInit, CheckGc, NoChange, Rebuilt, Refused}
+use Rattle.calls.specs.Answers.{answerOf}
 use Rattle.calls.specs.declared.Call.{Call}
 use Rattle.calls.specs.declared.Call.the-variants as Calls
 use Rattle.calls.specs.Calls.{callOf}
-use Rattle.lines.specs.Lines.{printed, shownText}
-use Rattle.lines.specs.Writing.{Put}
-use Rattle.lines.specs.declared.writer.Event.{Event}
-use Rattle.lines.specs.declared.writer.Shown as Writer
-use Rattle.player.specs.Steps.{playing, shownBy}
+use Rattle.script.specs.Lines.{printed, shownText}
+use Rattle.script.specs.Writing.{Put}
+use Rattle.script.specs.declared.writer.Event.{Event}
+use Rattle.script.specs.declared.writer.Shown as Writer
+use Rattle.step.specs.Plays.{playing, shownBy}
 use Rattle.shelfrun.specs.Shelfrun.{sizes, output}
 use Rattle.shelfrun.specs.Feeding.{Says, Answers}
 
@@ -49,21 +49,8 @@ module _ {A : Type 0} (x y : A) (a : Answer) (n : ℕ) (e : n ≡ number (answer
 pub playing-step : (call : Call) (value shown : List ℕ) (s : Stripe) → length shown ≡ 1 → playing sizes call value shown s ≡ step sizes (callOf call value) s
 unfolding guard
 playing-step (Calls.Read i) value shown s h = rw h
-playing-step (Calls.Swap c i) value shown s h = refl
-playing-step (Calls.Add c j) value shown s h = refl
-playing-step (Calls.Check c j) value shown s h = refl
-playing-step (Calls.Drop c) value shown s h = refl
-playing-step (Calls.Sweep c) value shown s h = refl
-playing-step (Calls.Stop c) value shown s h = refl
-playing-step (Calls.Fail j) value shown s h = refl
-playing-step (Calls.Lock c) value shown s h = refl
 playing-step (Calls.Pick c) value shown s h = refl
-playing-step (Calls.Weaken c) value shown s h = refl
-playing-step (Calls.Tighten c) value shown s h = refl
-playing-step (Calls.Write c) value shown s h = refl
-playing-step (Calls.Settle c) value shown s h = refl
-playing-step (Calls.Unlock c) value shown s h = refl
-playing-step (Calls.Quit c) value shown s h = refl
+playing-step (Calls.Step call) value shown s h = refl
 
 -- a list of one byte
 pub one-byte : (l : List ℕ) → length l ≡ 1 → l ≡ getD l 0 0 ∷ []

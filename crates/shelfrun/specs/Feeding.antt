@@ -6,13 +6,13 @@ use mathlib.Core.Option.{Option, some}
 use Prim.Native.Nat.{ℕ}
 use Rattle.machine.specs.Stripe as Machine
 use Rattle.machine.specs.Calls.{Call}
-use Rattle.lines.specs.Lines.{shownText}
-use Rattle.lines.specs.Reading.{Holds}
-use Rattle.lines.specs.Writing.{Put}
-use Rattle.lines.specs.declared.reader.LineReader.{LineReader}
-use Rattle.lines.specs.declared.writer.Event.{Event}
-use Rattle.lines.specs.declared.writer.Shown.{Shown}
-use Rattle.player.specs.View.{stripeOf}
+use Rattle.script.specs.Lines.{shownText}
+use Rattle.script.specs.Reading.{Holds}
+use Rattle.script.specs.Writing.{Put}
+use Rattle.script.specs.declared.reader.LineReader.{LineReader}
+use Rattle.script.specs.declared.writer.Event.{Event}
+use Rattle.script.specs.declared.writer.Shown.{Shown}
+use Rattle.step.specs.View.{stripeOf}
 use Rattle.shelfrun.specs.declared.feeding.Shelf.{Shelf}
 use Rattle.shelfrun.specs.Shelfrun.{State, start, sizes, outcome, output, outputOf, left, eventIn, readIn, isBegun}
 

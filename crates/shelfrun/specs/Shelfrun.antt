@@ -8,10 +8,10 @@ use lib.ListN.{replicate}
 use Rattle.records.specs.declared.Sizes.{Sizes}
 use Rattle.records.specs.declared.Refusal.the-variants.{OutOfLimits}
 use Rattle.machine.specs.Stripe.{Stripe, Outcome, Answer, fresh, number, refused}
-use Rattle.machine.specs.Calls.{Call, Read, Swap, Add, Check, Drop, Sweep, Stop, Fail, Lock, Pick, Weaken, Tighten, Write, Settle, Unlock, Quit, step}
-use Rattle.lines.specs.Lines.{call, ended, eventOf, printed, shown}
-use Rattle.lines.specs.declared.writer.Event.{Event}
-use Rattle.lines.specs.declared.writer.Event.the-variants as Events
+use Rattle.machine.specs.Calls.{Call, Read, Pick, Swap, Fail, At, By, step}
+use Rattle.script.specs.Lines.{call, ended, eventOf, printed, shown}
+use Rattle.script.specs.declared.writer.Event.{Event}
+use Rattle.script.specs.declared.writer.Event.the-variants as Events
 
 -- "with k=2, n=4, B=1, t_d=1, m=2"
 abbrev pub sizes : Sizes
@@ -30,21 +30,11 @@ eventIn (some x) a = eventOf x a
 -- "and the byte read or "-"": only a read shows one
 abbrev pub isRead : Call → Bool
 isRead (Read i) = true
-isRead (Swap c i value) = false
-isRead (Add c j) = false
-isRead (Check c j) = false
-isRead (Drop c) = false
-isRead (Sweep c) = false
-isRead (Stop c) = false
-isRead (Fail j value) = false
-isRead (Lock c) = false
 isRead (Pick c) = false
-isRead (Weaken c) = false
-isRead (Tighten c) = false
-isRead (Write c) = false
-isRead (Settle c) = false
-isRead (Unlock c) = false
-isRead (Quit c) = false
+isRead (Swap c i value) = false
+isRead (Fail j value) = false
+isRead (At op c j) = false
+isRead (By op c) = false
 
 abbrev pub readIn : Option Call → Answer → List ℕ
 readIn none a = 45 ∷ []

@@ -5,25 +5,25 @@ ghost use mathlib.Core.Path.{_≡_};
 ghost use Prim.Native.Nat.{ℕ, _≤_};
 ghost use lib.ListN.{length, take};
 ghost use Rattle.io.specs.Counts.{Counts};
-ghost use Rattle.answers.specs.Answers.{answerOf};
+ghost use Rattle.calls.specs.Answers.{answerOf};
 ghost use Rattle.calls.specs.Calls.{callOf};
-ghost use Rattle.lines.specs.Reading.{callIn};
-ghost use Rattle.lines.specs.Writing.{Put};
+ghost use Rattle.script.specs.Reading.{callIn};
+ghost use Rattle.script.specs.Writing.{Put};
 ghost use Rattle.machine.specs.Calls.{step};
 ghost use Rattle.machine.specs.Stripe.{answered};
-ghost use Rattle.player.specs.View.{stripeOf};
-ghost use Rattle.player.specs.Steps.{shownBy};
+ghost use Rattle.step.specs.View.{stripeOf};
+ghost use Rattle.step.specs.Plays.{shownBy};
 ghost use Rattle.shelfrun.specs.Shelfrun.{output, sizes};
 ghost use Rattle.shelfrun.specs.Feeding.{Answers};
 use super::words;
-use answers::Answer;
+use calls::Answer;
 use calls::Call;
-use lines::reader::Line;
-use lines::writer;
-use lines::writer::Event;
-use lines::writer::Shown;
-use player::Stripe;
 use records::Sizes;
+use script::reader::Line;
+use script::writer;
+use script::writer::Event;
+use script::writer::Shown;
+use step::Stripe;
 
 // What a call is answered, the byte in the buffer that a read fills, and the records after it.
 pub struct Turn {
@@ -60,7 +60,7 @@ fn play(
         m: 2,
     };
     let mut shown = [0u8; 1];
-    let played = player::play(
+    let played = step::play(
         z,
         call,
         value,

@@ -4,14 +4,14 @@ ghost use mathlib.Core.Path.{_≡_};
 ghost use Prim.Native.Nat.{suc, _+_, _*_, _≤_, _<_, _^_};
 ghost use lib.ListN.{length, replicate, take};
 ghost use Rattle.io.specs.Counts.{Counts};
-ghost use Rattle.lines.specs.Lines.{call};
-ghost use Rattle.player.specs.View.{stripeOf};
+ghost use Rattle.script.specs.Lines.{call};
+ghost use Rattle.step.specs.View.{stripeOf};
 ghost use Rattle.shelfrun.specs.Shelfrun.{State, start, sizes, lastOutput};
 ghost use Rattle.shelfrun.specs.Feeding.{Answers, Feeds, Is, Keeps};
 use super::answering;
 use super::answering::Answered;
-use lines::reader::LineReader;
-use player::Stripe;
+use script::reader::LineReader;
+use step::Stripe;
 
 const LF: u8 = b'\n';
 

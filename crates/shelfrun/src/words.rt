@@ -4,16 +4,19 @@ ghost use mathlib.Core.List.{List, [], _∷_};
 ghost use mathlib.Core.Path.{_≡_};
 ghost use Prim.Native.Nat.{ℕ};
 ghost use lib.Dec.{eqb};
-ghost use Rattle.answers.specs.Answers.{answerOf};
-ghost use Rattle.calls.specs.Calls.{callOf};
-ghost use Rattle.lines.specs.Lines.{isRebuilt, shown, shownText};
+ghost use Rattle.calls.specs.Answers.{answerOf};
+ghost use Rattle.calls.specs.Calls.{callOf, stepOf};
+ghost use Rattle.script.specs.Lines.{isRebuilt, eventAt, eventBy, eventOf, shown, shownText};
 ghost use Rattle.machine.specs.Stripe.{number};
-ghost use Rattle.player.specs.Steps.{shownBy};
+ghost use Rattle.step.specs.Plays.{shownBy};
 ghost use Rattle.shelfrun.specs.Feeding.{Says};
-use answers::Answer;
+use calls::Answer;
 use calls::Call;
-use lines::writer::Event;
-use lines::writer::Shown;
+use calls::StepCall;
+use records::ClientCall;
+use records::NodeCall;
+use script::writer::Event;
+use script::writer::Shown;
 
 pub struct Words {
     pub event: Event,
@@ -62,13 +65,41 @@ fn if_shown(answer: Answer, byte: u8) -> Shown
     }
 }
 
-// An event, and nothing shown.
-fn silent(event: Event) -> Words
-    ensures { λ r. ⌜ (r .event ≡ event) × (r .shown ≡ Shown.Nothing) ⌝ }
+// The events of the calls: at a node, of a client, and any.
+fn event_at(op: NodeCall, answer: Answer) -> Event
+    ensures { λ r. ⌜ r ≡ eventAt op (answerOf answer []) ⌝ }
 {
-    Words {
-        event: event,
-        shown: Shown::Nothing,
+    match op {
+        NodeCall::Add => if_accepted(answer, Event::Added),
+        NodeCall::Check => Event::None,
+    }
+}
+
+fn event_by(op: ClientCall, answer: Answer) -> Event
+    ensures { λ r. ⌜ r ≡ eventBy op (answerOf answer []) ⌝ }
+{
+    match op {
+        ClientCall::Drop => Event::None,
+        ClientCall::Sweep => Event::None,
+        ClientCall::Stop => Event::None,
+        ClientCall::Lock => if_accepted(answer, Event::Locked),
+        ClientCall::Weaken => Event::None,
+        ClientCall::Tighten => Event::None,
+        ClientCall::Write => Event::None,
+        ClientCall::Settle => if_rebuilt(answer),
+        ClientCall::Unlock => Event::None,
+        ClientCall::Quit => Event::None,
+    }
+}
+
+fn event_of(call: StepCall, answer: Answer) -> Event
+    ensures { λ r. ⌜ ((value : List ℕ) → r ≡ eventOf (stepOf call value) (answerOf answer [])) ⌝ }
+{
+    match call {
+        StepCall::Swap(_, _) => if_accepted(answer, Event::Swapped),
+        StepCall::Fail(_) => Event::None,
+        StepCall::At(op, _, _) => event_at(op, answer),
+        StepCall::By(op, _) => event_by(op, answer),
     }
 }
 
@@ -84,20 +115,16 @@ pub fn words_of(call: Call, answer: Answer, byte: u8) -> Words
                 shown: shown,
             }
         }
-        Call::Swap(_, _) => silent(if_accepted(answer, Event::Swapped)),
-        Call::Add(_, _) => silent(if_accepted(answer, Event::Added)),
-        Call::Check(_, _) => silent(Event::None),
-        Call::Drop(_) => silent(Event::None),
-        Call::Sweep(_) => silent(Event::None),
-        Call::Stop(_) => silent(Event::None),
-        Call::Fail(_) => silent(Event::None),
-        Call::Lock(_) => silent(if_accepted(answer, Event::Locked)),
-        Call::Pick(_) => silent(Event::None),
-        Call::Weaken(_) => silent(Event::None),
-        Call::Tighten(_) => silent(Event::None),
-        Call::Write(_) => silent(Event::None),
-        Call::Settle(_) => silent(if_rebuilt(answer)),
-        Call::Unlock(_) => silent(Event::None),
-        Call::Quit(_) => silent(Event::None),
+        Call::Pick(_) => Words {
+            event: Event::None,
+            shown: Shown::Nothing,
+        },
+        Call::Step(step) => {
+            let event = event_of(step, answer);
+            Words {
+                event: event,
+                shown: Shown::Nothing,
+            }
+        }
     }
 }

@@ -1,8 +1,8 @@
 // The client records.
 ghost use Prim.Native.Nat.{_≤_};
-use player::Clients;
-use texts::clients::put_client;
-use texts::output::put_between;
+use format::clients::put_client;
+use format::output::put_between;
+use step::Clients;
 
 // The clients one space apart.
 pub fn put_clients(out: &mut [u8], mut at: usize, m: usize, clients: Clients) -> usize

@@ -1,9 +1,9 @@
 // Standard input by way of a lent buffer: its bytes, and its lines.
 use super::sizes::SizesReader;
 use libc::STDIN_FILENO;
-use lines::reader::Line;
-use lines::reader::LineReader;
 use records::Sizes;
+use script::reader::Line;
+use script::reader::LineReader;
 
 const LF: u8 = b'\n';
 

@@ -2,7 +2,7 @@
 mod clients; // clients.rt: the client records
 mod input; // input.rt: the lines of standard input
 mod nodes; // nodes.rt: the node records with their blocks
-mod script; // script.rt: the lines of a script, one after the other
+mod lines; // lines.rt: the lines of a script, one after the other
 mod show; // show.rt: what is printed of a call
 mod sizes; // sizes.rt: the line of sizes
 
@@ -15,8 +15,8 @@ fn main() {
     let sizes = first.sizes;
     let input = first.input;
     if sizes.within() {
-        script::play_lines(sizes, input, &mut buffer, &mut out);
+        lines::play_lines(sizes, input, &mut buffer, &mut out);
     } else {
-        script::refuse_lines(input, &mut buffer, &mut out);
+        lines::refuse_lines(input, &mut buffer, &mut out);
     }
 }

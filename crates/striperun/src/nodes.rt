@@ -2,10 +2,10 @@
 ghost use mathlib.Core.Path.{_≡_};
 ghost use Prim.Native.Nat.{_*_, _≤_};
 ghost use lib.ListN.{length};
+use format::nodes::put_node;
+use format::output::put_between;
 use records::Sizes;
 use stripe::Nodes;
-use texts::nodes::put_node;
-use texts::output::put_between;
 
 // The nodes one space apart.
 pub fn put_nodes(out: &mut [u8], mut at: usize, z: Sizes, nodes: Nodes, blocks: &[u8]) -> usize

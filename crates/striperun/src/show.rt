@@ -3,29 +3,28 @@ ghost use Prim.Native.Nat.{_≤_};
 ghost use Rattle.striperun.specs.Tables.{Tables};
 use super::clients::put_clients;
 use super::nodes::put_nodes;
-use answers::Answer;
+use calls::Answer;
 use calls::Call;
-use lines::reader::Line;
-use player::Played;
-use player::Stripe;
+use format::lists::put_id;
+use format::lists::put_set;
+use format::nodes::put_modes;
+use format::output::put;
+use format::output::put_bytes;
+use format::output::put_number;
+use format::output::put_number_and;
+use format::output::put_text;
 use records::ClientRecord;
 use records::Phase;
 use records::Refusal;
 use records::Sizes;
-use texts::lists::put_id;
-use texts::lists::put_set;
-use texts::nodes::put_modes;
-use texts::output::put;
-use texts::output::put_bytes;
-use texts::output::put_number;
-use texts::output::put_number_and;
-use texts::output::put_text;
+use script::reader::Line;
+use step::Played;
+use step::Stripe;
 
 // What was picked: the set, and E.
 fn put_picked(out: &mut [u8], mut at: usize, client: ClientRecord) -> usize {
-    let set = client.set;
     let phase = client.phase;
-    let Phase::Writing(_, epoch) = phase else {
+    let Phase::Writing(_, set, epoch) = phase else {
         return put(out, at, b'-');
     };
     at = put_text(out, at, b"set=");

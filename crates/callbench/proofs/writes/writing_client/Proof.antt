@@ -7,7 +7,7 @@ use Rattle.callbench.proofs.writes.writing_client.Statement.{statement}
 use Rattle.callbench.proofs.writes.writing_client.Tie as tie
 
 begin-requires : tie.Need-begin-requires
-begin-requires c κs = omega (arith, ap (λ (x : Client). x .next .0) (c .fresh .ensures))
+begin-requires c κs = omega (arith, ap (λ (x : Client). x .next .0) (c .before .fresh .ensures))
 
 pub writing-client-spec : {M : Type 1} → statement M
-writing-client-spec = tie.close (tie.spec (λ c κs. search needs) begin-requires (λ c. search needs))
+writing-client-spec = tie.close (tie.spec (λ c κs. search needs) (λ c κs. search needs) begin-requires (λ c. search needs))

@@ -1,9 +1,9 @@
 -- The words of the answer, and its number. Assumes nothing.
 use mathlib.Core.Path.{sym, _∙_}
 use mathlib.Core.List.{[], _∷_}
-use Rattle.answers.specs.Answers.{answerOf}
+use Rattle.calls.specs.Answers.{answerOf}
 use Rattle.calls.specs.Calls.{callOf}
-use Rattle.player.specs.Steps.{shownBy}
+use Rattle.step.specs.Plays.{shownBy}
 use Rattle.shelfrun.proofs.Turns.{number-alone, prints}
 use borrow.Author.Needs.{needs}
 use Rattle.shelfrun.proofs.answering.print.Statement.{statement}

@@ -7,7 +7,7 @@ use lib.Seq.{length-take-le, take-all}
 use borrow.Author.Needs.{needs}
 use borrow.Rule.Slice.PartMut.{same-len-mid}
 use Rattle.blocks.proofs.Parts.{lent-length}
-use Rattle.player.specs.View.{stripeOf}
+use Rattle.step.specs.View.{stripeOf}
 use Rattle.shelfrun.specs.Shelfrun.{sizes}
 use Rattle.shelfrun.specs.Feeding.{Feeds, Kept}
 use Rattle.shelfrun.proofs.Bytes.{feeds-none, within-line, at-end, silent-byte, line-byte, fed-all}

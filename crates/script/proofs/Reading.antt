@@ -1,0 +1,43 @@
+-- What a reader tells, over one byte: a space ends a field, any other byte goes on with it. Assumes nothing.
+use mathlib.Core.Path.{_≡_, refl, sym, ap, subst, _∙_}
+use mathlib.Core.List.{List, [], _∷_, _++_, append-assoc, append-nil}
+use Prim.Native.Nat.{ℕ}
+use lib.Dec.{eqb}
+use lib.ListN.{length}
+use borrow.Author.Tests.{ne-eqb}
+use Rattle.machine.proofs.Base.{cond-ind}
+use Rattle.script.specs.Lines.{onto, parts, fields, call}
+use Rattle.script.specs.Reading.{clipped, callIn, goesOn, Holds, Takes, Follows, Ends}
+use Rattle.script.specs.declared.reader.Line.{Line}
+use Rattle.script.specs.declared.reader.LineReader.{LineReader}
+
+-- a line has a first field
+fields-cases : (P : List (List ℕ) → Type 0) → ((p : List ℕ) (ps : List (List ℕ)) → P (p ∷ ps)) → (l : List ℕ) → P (fields l)
+unfolding parts
+fields-cases P each [] = each [] []
+fields-cases P each (x ∷ xs) =
+    cond-ind P (eqb x 32) ([] ∷ fields xs) (onto x (fields xs)) (λ e. each [] (fields xs))
+    (λ e. fields-cases (λ ps. P (onto x ps)) (λ p ps. each (x ∷ p) ps) xs)
+
+module _ {reader next : LineReader} {value after : List ℕ} {byte : ℕ} (same : length after ≡ length value) where
+  pub at-space : byte ≡ 32 → ((p : List ℕ) (ps : List (List ℕ)) → goesOn next after (p ∷ ps) ≡ goesOn reader value ([] ∷ p ∷ ps))
+      → Follows reader value byte next after
+  unfolding parts
+  at-space e f =
+      record { room = same; tells = λ rest. rw e (fields-cases (λ ps. goesOn next after ps ≡ goesOn reader value ([] ∷ ps)) f rest) }
+
+  pub at-other : (byte ≡ 32 → ⊥) → ((p : List ℕ) (ps : List (List ℕ)) → goesOn next after (p ∷ ps) ≡ goesOn reader value ((byte ∷ p) ∷ ps))
+      → Follows reader value byte next after
+  unfolding parts
+  at-other e f =
+      record { room = same; tells = λ rest. rw (ne-eqb byte 32 e) (fields-cases (λ ps. goesOn next after ps ≡ goesOn reader value (onto byte ps)) f rest) }
+
+pub takes : {reader next : LineReader} {value after : List ℕ} {byte : ℕ} → Follows reader value byte next after → Takes reader value byte next after
+unfolding Holds
+takes {byte = byte} f =
+    record { room = f .room; holds = λ l h rest. f .tells rest ∙ h (byte ∷ rest) ∙ rw (f .room, append-assoc l (byte ∷ []) rest) }
+
+-- at the line's end nothing follows
+pub ends : {reader : LineReader} {line : Line} → ((value : List ℕ) → callIn line value ≡ goesOn reader value ([] ∷ [])) → Ends reader line
+unfolding Holds parts
+ends told = record { tells = λ l value h. told value ∙ h [] ∙ rw append-nil }

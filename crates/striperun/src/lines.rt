@@ -1,0 +1,181 @@
+// A whole script, after its line of sizes.
+ghost use mathlib.Core.Path.{_≡_};
+ghost use Prim.Native.Nat.{_*_, _≤_};
+ghost use Rattle.striperun.specs.Tables.{Within, Tables};
+use super::input::Input;
+use super::input::TURNS;
+use super::input::Taken;
+use super::show::put_played;
+use calls::Answer;
+use format::output::flush;
+use format::output::put_text;
+use records::Refusal;
+use records::Sizes;
+use script::reader::Line;
+use step::Played;
+use step::Stripe;
+
+// The sizes are outside the limits: each line is refused.
+pub fn refuse_lines(mut input: Input, buffer: &mut [u8], out: &mut [u8]) {
+    let mut value = [0u8; 1];
+    let mut at = 0;
+    for _ in 0..TURNS {
+        match input.line(buffer, &mut value) {
+            Taken::End => {
+                flush(out, at);
+                return;
+            }
+            Taken::Line(_, rest) => {
+                at = put_text(out, at, b"1 -\n");
+                input = rest;
+            }
+        }
+    }
+}
+
+// The records, and the place in the output, after a line.
+struct State {
+    stripe: Stripe,
+    at: usize,
+}
+
+fn least(a: usize, b: usize) -> usize
+    ensures { λ r. ⌜ r ≤ b ⌝ }
+{
+    if a < b { a } else { b }
+}
+
+// A line's call. The value has room for one byte more than a block: a longer one is then refused for its length.
+fn play(
+    z: Sizes,
+    line: Line,
+    value: &[u8],
+    stripe: Stripe,
+    blocks: &mut [u8],
+    spare: &mut [u8],
+    differences: &mut [u8],
+    shown: &mut [u8],
+) -> Played {
+    match line {
+        Line::Unreadable => Played {
+            answer: Answer::Refused(Refusal::OutOfLimits),
+            stripe: stripe,
+        },
+        Line::Play(call, count) => {
+            let end = least(count, value.len());
+            step::play(
+                z,
+                call,
+                &value[0..end],
+                stripe,
+                blocks,
+                spare,
+                differences,
+                shown,
+            )
+        }
+    }
+}
+
+// A line's call, and the line that is printed of it.
+fn step(
+    z: Sizes,
+    line: Line,
+    value: &[u8],
+    before: State,
+    out: &mut [u8],
+    blocks: &mut [u8],
+    spare: &mut [u8],
+    differences: &mut [u8],
+    shown: &mut [u8],
+) -> State
+    requires { ⌜ Tables z (now blocks) ⌝ }
+{
+    let stripe = before.stripe;
+    let played = play(z, line, value, stripe, blocks, spare, differences, shown);
+    let at = put_played(
+        out,
+        before.at,
+        z,
+        line,
+        played,
+        blocks,
+        spare,
+        differences,
+        shown,
+    );
+    let stripe = played.stripe;
+    State { stripe, at }
+}
+
+// Each line's call, on a fresh stripe whose tables are lent.
+fn play_lent(
+    z: Sizes,
+    mut input: Input,
+    buffer: &mut [u8],
+    out: &mut [u8],
+    blocks: &mut [u8],
+    spare: &mut [u8],
+    differences: &mut [u8],
+    value: &mut [u8],
+    shown: &mut [u8],
+)
+    requires { ⌜ Tables z (now blocks) ⌝ }
+{
+    let stripe = Stripe::fresh();
+    let mut state = State { stripe, at: 0 };
+    for _ in 0..TURNS {
+        match input.line(buffer, value) {
+            Taken::End => {
+                flush(out, state.at);
+                return;
+            }
+            Taken::Line(line, rest) => {
+                state = step(
+                    z,
+                    line,
+                    value,
+                    state,
+                    out,
+                    blocks,
+                    spare,
+                    differences,
+                    shown,
+                );
+                input = rest;
+            }
+        }
+    }
+}
+
+fn table_length(blocks: usize, b: usize) -> usize
+    requires { ⌜ (blocks ≤ 18) × (b ≤ 4096) ⌝ }
+    ensures { λ r. ⌜ (r ≡ blocks * b) × (r ≤ blocks * 4096) ⌝ }
+{
+    blocks * b
+}
+
+pub fn play_lines(z: Sizes, input: Input, buffer: &mut [u8], out: &mut [u8])
+    requires { ⌜ Within z ⌝ }
+{
+    let mut blocks = [0u8; 73728];
+    let mut spare = [0xAAu8; 73728];
+    let mut differences = [0x55u8; 32768];
+    let mut value = [0u8; 4097];
+    let mut shown = [0u8; 4096];
+    let b = z.b;
+    let longer = b + 1;
+    let of_nodes = table_length(z.n, b);
+    let of_clients = table_length(z.m, b);
+    play_lent(
+        z,
+        input,
+        buffer,
+        out,
+        &mut blocks[0..of_nodes],
+        &mut spare[0..of_nodes],
+        &mut differences[0..of_clients],
+        &mut value[0..longer],
+        &mut shown[0..b],
+    );
+}
