@@ -2,7 +2,7 @@
 //! block that it is multiplied into.
 use mezgaudre::{add_times, decode, encode, product, Answer};
 use std::hint::black_box;
-use timing::{aim, best_of, noise};
+use timing::{best_of, met, noise};
 
 mod timing;
 
@@ -143,6 +143,15 @@ fn decode_6_lost(rows: &Rows, b: usize) -> (f64, f64) {
     };
     let row = || by_rows(black_box(&table), black_box(&mut row_out));
     line("decode 12+6, 6 lost", b, K * b * LOST, library, row)
+}
+
+fn aim(what: &str, measured: f64, least: f64) {
+    met(
+        what,
+        measured,
+        &format!("at least {least}"),
+        measured >= least,
+    );
 }
 
 fn main() {

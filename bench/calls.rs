@@ -1,8 +1,11 @@
-//! What a swap, an add and a whole rebuild cost, on records by value in the largest stripe. `callbench` repeats a swap or an add many
-//! times, so that crossing from Rust costs nothing; the leaf of a call is what moves the bytes of its block.
+//! What a swap, an add and a whole rebuild cost on records by value in the largest stripe, beside the same calls in plain Rust (`plain.rs`), in one
+//! run, on tables at the same places of a page. Both repeat a swap or an add by the same client at one node, whose list has 0 to 15 entries, so that
+//! crossing from Rust costs nothing.
+use plain::{Client, Node, Sizes, Stripe};
 use std::hint::black_box;
-use timing::{aim, best_of, noise};
+use timing::{best_of, met, noise};
 
+mod plain;
 mod timing;
 
 const K: usize = 12;
@@ -10,8 +13,7 @@ const N: usize = 18;
 const LOST: usize = N - K;
 const LENGTHS: [usize; 3] = [1, 512, 4096];
 const TIMES: usize = 256;
-/// The most stripes that request C-11 asks of a volume; and so many that no cache holds what a call on each of them touches.
-const SHELVES: [usize; 2] = [1_024, 16_384];
+const PAGE: usize = 4096;
 
 #[link(name = "callbench", kind = "static")]
 extern "C" {
@@ -25,15 +27,6 @@ extern "C" {
         differences: *mut u8,
         differences_length: usize,
     ) -> u8;
-    fn callbench_swap_leaf(
-        times: usize,
-        value: *const u8,
-        value_length: usize,
-        block: *mut u8,
-        block_length: usize,
-        difference: *mut u8,
-        difference_length: usize,
-    ) -> u8;
     fn callbench_add(
         times: usize,
         b: usize,
@@ -42,13 +35,6 @@ extern "C" {
         blocks: *mut u8,
         blocks_length: usize,
     ) -> u8;
-    fn callbench_add_leaf(
-        times: usize,
-        difference: *const u8,
-        difference_length: usize,
-        block: *mut u8,
-        block_length: usize,
-    ) -> u8;
     fn callbench_rebuild(
         b: usize,
         blocks: *mut u8,
@@ -56,25 +42,66 @@ extern "C" {
         spare: *mut u8,
         spare_length: usize,
     ) -> u8;
-    fn callbench_encode(
-        b: usize,
-        data: *const u8,
-        data_length: usize,
-        redundant: *mut u8,
-        redundant_length: usize,
-    ) -> u8;
 }
 
-fn accepted(answer: u8) {
-    assert_eq!(answer, 0);
+/// Bytes that begin at a fixed place of a page, the same for every buffer of that place.
+struct Buffer {
+    bytes: Vec<u8>,
+    start: usize,
+    length: usize,
 }
 
-// Safety of the calls: a pointer and a length come from one slice, and what is lent as `&mut` overlaps nothing else.
+impl Buffer {
+    fn new(length: usize, place: usize) -> Self {
+        let mut bytes = vec![0; length + 2 * PAGE];
+        let start = (PAGE - bytes.as_ptr() as usize % PAGE) % PAGE + place;
+        bytes[start..start + length].copy_from_slice(&noise(length));
+        Buffer {
+            bytes,
+            start,
+            length,
+        }
+    }
 
-fn swap(times: usize, b: usize, value: &[u8], blocks: &mut [u8], differences: &mut [u8]) {
+    fn get(&mut self) -> &mut [u8] {
+        &mut self.bytes[self.start..self.start + self.length]
+    }
+}
+
+/// The tables of one stripe with one client, and a value to swap in.
+struct Tables {
+    value: Buffer,
+    blocks: Buffer,
+    spare: Buffer,
+    differences: Buffer,
+}
+
+impl Tables {
+    fn new(b: usize) -> Self {
+        Tables {
+            value: Buffer::new(b, 0),
+            blocks: Buffer::new(N * b, 1024),
+            spare: Buffer::new(N * b, 2048),
+            differences: Buffer::new(b, 3072),
+        }
+    }
+}
+
+fn accepted(number: u8) {
+    assert_eq!(number, 0);
+}
+
+// The proved calls. Safety: each pointer and its length come from one slice, and the slices do not overlap.
+
+fn proved_swaps(b: usize, tables: &mut Tables) {
+    let (value, blocks, differences) = (
+        tables.value.get(),
+        tables.blocks.get(),
+        tables.differences.get(),
+    );
     accepted(unsafe {
         callbench_swap(
-            times,
+            TIMES,
             b,
             value.as_ptr(),
             value.len(),
@@ -86,24 +113,11 @@ fn swap(times: usize, b: usize, value: &[u8], blocks: &mut [u8], differences: &m
     });
 }
 
-fn swap_leaf(value: &[u8], block: &mut [u8], difference: &mut [u8]) {
-    accepted(unsafe {
-        callbench_swap_leaf(
-            TIMES,
-            value.as_ptr(),
-            value.len(),
-            block.as_mut_ptr(),
-            block.len(),
-            difference.as_mut_ptr(),
-            difference.len(),
-        )
-    });
-}
-
-fn add(times: usize, b: usize, differences: &[u8], blocks: &mut [u8]) {
+fn proved_adds(b: usize, tables: &mut Tables) {
+    let (blocks, differences) = (tables.blocks.get(), tables.differences.get());
     accepted(unsafe {
         callbench_add(
-            times,
+            TIMES,
             b,
             differences.as_ptr(),
             differences.len(),
@@ -113,20 +127,8 @@ fn add(times: usize, b: usize, differences: &[u8], blocks: &mut [u8]) {
     });
 }
 
-fn add_leaf(difference: &[u8], block: &mut [u8]) {
-    accepted(unsafe {
-        callbench_add_leaf(
-            TIMES,
-            difference.as_ptr(),
-            difference.len(),
-            block.as_mut_ptr(),
-            block.len(),
-        )
-    });
-}
-
-/// A whole rebuild after the failure of the first LOST nodes.
-fn rebuild(b: usize, blocks: &mut [u8], spare: &mut [u8]) {
+fn proved_rebuild(b: usize, tables: &mut Tables) {
+    let (blocks, spare) = (tables.blocks.get(), tables.spare.get());
     accepted(unsafe {
         callbench_rebuild(
             b,
@@ -138,156 +140,104 @@ fn rebuild(b: usize, blocks: &mut [u8], spare: &mut [u8]) {
     });
 }
 
-fn encode(b: usize, data: &[u8], redundant: &mut [u8]) {
-    accepted(unsafe {
-        callbench_encode(
-            b,
-            data.as_ptr(),
-            data.len(),
-            redundant.as_mut_ptr(),
-            redundant.len(),
-        )
+// The same in plain Rust.
+
+fn sizes(b: usize) -> Sizes {
+    Sizes {
+        k: K,
+        n: N,
+        b,
+        failures: LOST,
+        m: 1,
+    }
+}
+
+/// Plays on a stripe of these nodes and a fresh client.
+fn plainly(tables: &mut Tables, nodes: &mut [Node], play: impl FnOnce(&mut Stripe, &[u8])) {
+    let mut stripe = Stripe {
+        nodes,
+        clients: &mut [Client::fresh()],
+        blocks: tables.blocks.get(),
+        spare: tables.spare.get(),
+        differences: tables.differences.get(),
+    };
+    play(&mut stripe, tables.value.get());
+    black_box(&stripe.nodes);
+}
+
+/// Many times over by the client as it was, at a node that is fresh again once its list is full.
+fn repeated(stripe: &mut Stripe, at: usize, mut call: impl FnMut(&mut Stripe) -> u8) {
+    let client = stripe.clients[0];
+    for _ in 0..TIMES {
+        if stripe.nodes[at].is_full() {
+            stripe.nodes[at] = Node::fresh();
+        }
+        stripe.clients[0] = client;
+        accepted(call(stripe));
+    }
+}
+
+fn plain_swaps(b: usize, tables: &mut Tables) {
+    let z = sizes(b);
+    plainly(tables, &mut [Node::fresh(); N], |stripe, value| {
+        repeated(stripe, 0, |stripe| stripe.swap(&z, 1, 1, value))
     });
 }
 
-/// A line of the table. Returns the leaf's share of the call.
-fn line(name: &str, b: usize, call: impl FnMut(), leaf: impl FnMut()) -> f64 {
-    let [call, leaf] = best_of(call, leaf).map(|seconds| seconds / TIMES as f64 * 1e9);
-    let share = leaf / call;
-    println!("{name:<8}{b:>6}{call:>12.0}{leaf:>12.0}{share:>8.2}");
-    share
-}
-
-fn measure_swap(b: usize) -> f64 {
-    let (value, mut blocks, mut differences) = (noise(b), noise(N * b), vec![0; b]);
-    let (mut leaf_block, mut leaf_difference) = (noise(b), vec![0; b]);
-    line(
-        "swap",
-        b,
-        || {
-            swap(
-                TIMES,
-                b,
-                black_box(&value),
-                black_box(&mut blocks),
-                black_box(&mut differences),
-            )
-        },
-        || {
-            swap_leaf(
-                black_box(&value),
-                black_box(&mut leaf_block),
-                black_box(&mut leaf_difference),
-            )
-        },
-    )
-}
-
-fn measure_add(b: usize) -> f64 {
-    let (differences, mut blocks, mut leaf_block) = (noise(b), vec![0; N * b], noise(b));
-    line(
-        "add",
-        b,
-        || add(TIMES, b, black_box(&differences), black_box(&mut blocks)),
-        || add_leaf(black_box(&differences), black_box(&mut leaf_block)),
-    )
-}
-
-/// The tables of many stripes.
-struct Shelf {
-    b: usize,
-    values: Vec<u8>,
-    blocks: Vec<u8>,
-    differences: Vec<u8>,
-}
-
-impl Shelf {
-    fn new(stripes: usize, b: usize) -> Self {
-        Shelf {
-            b,
-            values: noise(stripes * b),
-            blocks: vec![0; stripes * N * b],
-            differences: vec![0; stripes * b],
-        }
-    }
-
-    /// A swap in each stripe, with a value of its own.
-    fn swaps(&mut self) {
-        let values = self.values.chunks(self.b);
-        let blocks = self.blocks.chunks_mut(N * self.b);
-        let differences = self.differences.chunks_mut(self.b);
-        for ((value, blocks), difference) in values.zip(blocks).zip(differences) {
-            swap(1, self.b, value, blocks, difference);
-        }
-    }
-
-    /// An add in each stripe, of its difference.
-    fn adds(&mut self) {
-        let blocks = self.blocks.chunks_mut(N * self.b);
-        for (difference, blocks) in self.differences.chunks(self.b).zip(blocks) {
-            add(1, self.b, difference, blocks);
-        }
-    }
-}
-
-/// A call on each stripe of a shelf, beside the same with blocks of one byte: what it costs there is what it costs beside its bytes.
-/// Returns the share of the bytes.
-fn measure_shelf(name: &str, stripes: usize, b: usize, calls: fn(&mut Shelf)) -> f64 {
-    let (mut shelf, mut bare) = (Shelf::new(stripes, b), Shelf::new(stripes, 1));
-    let [call, beside] = best_of(|| calls(&mut shelf), || calls(&mut bare))
-        .map(|seconds| seconds / stripes as f64 * 1e9);
-    let share = 1.0 - beside / call;
-    println!(
-        "{name:<8}{b:>6}{call:>12.0}{:>12.0}{share:>8.2}",
-        call - beside
-    );
-    share
-}
-
-/// A whole rebuild beside an encoding of the same data.
-fn measure_rebuild(b: usize) {
-    let mut word = noise(N * b);
-    let (data, redundant) = word.split_at_mut(K * b);
-    encode(b, data, redundant);
-    let mut blocks = word.clone();
-    blocks[..LOST * b].fill(0xA5);
-    let mut spare = vec![0; N * b];
-    rebuild(b, &mut blocks, &mut spare);
-    assert_eq!(blocks, word);
-    let mut out = vec![0; (N - K) * b];
-    let [rebuilt, encoded] = best_of(
-        || rebuild(b, black_box(&mut blocks), black_box(&mut spare)),
-        || encode(b, black_box(&word[..K * b]), black_box(&mut out)),
-    )
-    .map(|seconds| seconds * 1e6);
-    println!("A rebuild of 12+6 at {b}, 6 lost: {rebuilt:.1} microseconds; an encoding of the same data: {encoded:.1}");
-    println!("rebuild beside encode, ratio: {:.2}", rebuilt / encoded);
-}
-
-/// A swap and an add on each of so many stripes. Returns the leaf's share of each at 4096.
-fn measure_shelves(stripes: usize) -> [f64; 2] {
-    let calls: [(&str, fn(&mut Shelf)); 2] = [("swap", Shelf::swaps), ("add", Shelf::adds)];
-    let shares = calls.map(|(name, calls)| {
-        let [_, share] = [512, 4096].map(|b| measure_shelf(name, stripes, b, calls));
-        share
+fn plain_adds(b: usize, tables: &mut Tables) {
+    let z = sizes(b);
+    plainly(tables, &mut [Node::fresh(); N], |stripe, _| {
+        stripe.clients[0] = Client::writing();
+        repeated(stripe, K, |stripe| stripe.add(&z, 1, K as u8 + 1))
     });
-    println!("Each call on another of {stripes} stripes; the leaf is what the call takes more than with blocks of one byte.");
-    shares
+}
+
+fn plain_rebuild(b: usize, tables: &mut Tables) {
+    let z = sizes(b);
+    let mut nodes = [Node::fresh(); N];
+    nodes[..LOST].fill(Node::failed());
+    plainly(tables, &mut nodes, |stripe, _| {
+        (0..N).for_each(|_| accepted(stripe.lock(&z, 1)));
+        accepted(stripe.pick(&z, 1));
+        (0..3 * N).for_each(|_| accepted(stripe.advance(&z, 1)));
+    });
+}
+
+type Calls = fn(usize, &mut Tables);
+
+/// A line of the table. Both leave the same bytes. Returns the ratio.
+fn line(name: &str, b: usize, times: usize, proved: Calls, plain: Calls) -> f64 {
+    let (mut ours, mut theirs) = (Tables::new(b), Tables::new(b));
+    proved(b, &mut ours);
+    plain(b, &mut theirs);
+    assert_eq!(ours.blocks.get(), theirs.blocks.get());
+    assert_eq!(ours.spare.get(), theirs.spare.get());
+    assert_eq!(ours.differences.get(), theirs.differences.get());
+    let [proved, plain] = best_of(
+        || proved(b, black_box(&mut ours)),
+        || plain(b, black_box(&mut theirs)),
+    )
+    .map(|seconds| seconds / times as f64 * 1e9);
+    let ratio = proved / plain;
+    println!("{name:<8}{b:>6}{proved:>12.0}{plain:>12.0}{ratio:>8.2}");
+    ratio
 }
 
 fn main() {
-    println!("ns            B      a call    its leaf   share");
-    let [_, _, swapped] = LENGTHS.map(measure_swap);
-    let [_, _, added] = LENGTHS.map(measure_add);
-    println!("One stripe again and again, all in the cache; the node's record goes from call to call, its list having 0 to 15 entries.");
-    let on_shelves = SHELVES.map(measure_shelves);
-    measure_rebuild(4096);
-    aim("swap at 4096 in the cache, the leaf's share", swapped, 0.8);
-    aim("add at 4096 in the cache, the leaf's share", added, 0.8);
-    for (stripes, shares) in SHELVES.into_iter().zip(on_shelves) {
-        for (name, share) in ["swap", "add"].into_iter().zip(shares) {
-            let what = format!("{name} at 4096 on {stripes} stripes, the leaf's share");
-            aim(&what, share, 0.8);
+    println!("ns            B      proved  plain Rust   ratio");
+    let swaps = LENGTHS.map(|b| line("swap", b, TIMES, proved_swaps, plain_swaps));
+    let adds = LENGTHS.map(|b| line("add", b, TIMES, proved_adds, plain_adds));
+    let rebuilds = LENGTHS.map(|b| line("rebuild", b, 1, proved_rebuild, plain_rebuild));
+    println!("(12,18), one client, all in the cache; the proved calls on records by value. A rebuild is 18 locks, a pick, 18 writes, 18 settles and 18 unlocks with 6 nodes lost.");
+    let aims = [
+        ("swap", swaps, [2.0, 1.25]),
+        ("add", adds, [1.8, 1.10]),
+        ("rebuild", rebuilds, [2.8, 1.6]),
+    ];
+    for (name, ratios, [small, large]) in aims {
+        for (b, ratio, most) in [(1, ratios[0], small), (4096, ratios[2], large)] {
+            let what = format!("{name} at {b}, times plain Rust's");
+            met(&what, ratio, &format!("at most {most}"), ratio <= most);
         }
     }
 }

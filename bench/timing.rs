@@ -47,9 +47,8 @@ pub fn best_of(mut one: impl FnMut(), mut other: impl FnMut()) -> [f64; 2] {
     best
 }
 
-pub fn aim(what: &str, measured: f64, least: f64) {
-    println!(
-        "{what}: {measured:.2}, aim {least}: {}",
-        if measured < least { "MISSED" } else { "met" }
-    );
+/// A line that says what was measured beside its aim, and MISSED where it is.
+pub fn met(what: &str, measured: f64, aim: &str, is_met: bool) {
+    let met = if is_met { "met" } else { "MISSED" };
+    println!("{what}: {measured:.2}, aim {aim}: {met}");
 }
