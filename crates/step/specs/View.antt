@@ -52,4 +52,5 @@ storedOf z x = stripeOf z (x .stripe) (x .blocks) (x .spare) (x .differences)
 
 -- with blocks of zeros the machine's fresh stripe, for all sizes within the limits
 pub record Fresh (x : Stripe) : Type 0 where
-  pub is : (z : Sizes) (spare differences : List ℕ) → sizesWithin z ≡ true → stripeOf z x (replicate (z .n * z .b) 0) spare differences ≡ Machine.fresh z spare differences
+  pub is : (z : Sizes) (spare differences : List ℕ) → sizesWithin z ≡ true
+      → stripeOf z x (replicate (z .n * z .b) 0) spare differences ≡ Machine.fresh z spare differences
