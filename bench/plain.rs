@@ -530,6 +530,22 @@ fn largest_set(z: &Sizes, nodes: &[Node]) -> NodeSet {
 
 // ---- the calls
 
+/// The records of node j and client c, if they are there and within the limits.
+fn taken<'a>(
+    z: &Sizes,
+    nodes: &'a mut [Node],
+    clients: &'a mut [Client],
+    j: usize,
+    c: usize,
+) -> Result<(&'a mut Node, &'a mut Client), Number> {
+    let node = nodes.get_mut(j.wrapping_sub(1)).ok_or(2)?;
+    let client = clients.get_mut(c.wrapping_sub(1)).ok_or(2)?;
+    match node.is_within(z) && client.is_within(z) {
+        true => Ok((node, client)),
+        false => Err(1),
+    }
+}
+
 impl Stripe<'_> {
     fn are_tables_within(&self, z: &Sizes) -> bool {
         z.within()
@@ -546,15 +562,10 @@ impl Stripe<'_> {
             return 1;
         }
         let (at, by) = (usize::from(i), usize::from(c));
-        let (Some(node), Some(client)) = (
-            self.nodes.get_mut(at.wrapping_sub(1)),
-            self.clients.get_mut(by.wrapping_sub(1)),
-        ) else {
-            return 2;
+        let (node, client) = match taken(z, self.nodes, self.clients, at, by) {
+            Ok(taken) => taken,
+            Err(number) => return number,
         };
-        if !(node.is_within(z) && client.is_within(z)) {
-            return 1;
-        }
         if !z.is_position(i) {
             return 2;
         }
@@ -599,15 +610,10 @@ impl Stripe<'_> {
             return 1;
         }
         let (at, by) = (usize::from(j), usize::from(c));
-        let (Some(node), Some(client)) = (
-            self.nodes.get_mut(at.wrapping_sub(1)),
-            self.clients.get_mut(by.wrapping_sub(1)),
-        ) else {
-            return 2;
+        let (node, client) = match taken(z, self.nodes, self.clients, at, by) {
+            Ok(taken) => taken,
+            Err(number) => return number,
         };
-        if !(node.is_within(z) && client.is_within(z)) {
-            return 1;
-        }
         if !z.is_redundant(j) {
             return 2;
         }
