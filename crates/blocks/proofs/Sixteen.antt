@@ -11,7 +11,8 @@ use lib.ListN.{length, getD, drop, set, replicate, length-set, length-append, le
 use lib.Seq.{getD-append-add, getD-drop, getD-set-same, getD-set-other}
 use borrow.Author.Tests.{lt-ltb, le-ltb}
 use Rattle.gf256.proofs.Xor.{xors}
-use Rattle.blocks.specs.Blocks.{part, listOf}
+use Rattle.blocks.specs.Blocks.{part}
+use Rattle.basics.specs.Lists.{listOf}
 use Rattle.blocks.specs.Lanes.{lane, chosen}
 use Rattle.blocks.proofs.Parts.{part-length, part-at}
 use Rattle.blocks.proofs.Tabled.{listOf-is}

@@ -7,9 +7,10 @@ use native.Mathlib.Numerals.{add-one}
 use native.Mathlib.Omega.{arith}
 use lib.ListN.{length, getD, take}
 use lib.Seq.{take-all, ext-getD}
-use Rattle.blocks.specs.Blocks.{setPart, listOf, table}
+use Rattle.blocks.specs.Blocks.{setPart, table}
+use Rattle.basics.specs.Lists.{listOf}
 use Rattle.blocks.proofs.Parts.{set-length, take-set}
-use Rattle.blocks.proofs.Tables.{length-listOf, getD-listOf}
+use Rattle.basics.proofs.Lists.{length-listOf, getD-listOf}
 
 pub listOf-is : (b : ℕ) (f : ℕ → ℕ) (d : List ℕ) → length d ≡ b → ((p : ℕ) → p < b → getD d p 0 ≡ f p) → d ≡ listOf b f
 listOf-is b f d l e =

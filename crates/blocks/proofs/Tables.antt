@@ -1,4 +1,4 @@
--- A list by its entries (`listOf`), and a table of blocks by its bytes (`table`, `byteAt`). Assumes nothing.
+-- A table of blocks by its bytes (`table`, `byteAt`). Assumes nothing.
 use mathlib.Core.Path.{_≡_, refl, sym, ap, ap₂, _∙_}
 use mathlib.Core.Logic.{_⊎_, inl, inr}
 use mathlib.Core.List.{List, [], _∷_, _++_, append-nil, append-assoc}
@@ -8,30 +8,9 @@ use native.Mathlib.Omega.{arith}
 use lib.Arith.{digits-lt}
 use lib.ListN.{length, getD, drop, length-append, List·getD-append}
 use lib.Seq.{getD-at, getD-append-add, getD-take, getD-drop, ext-getD}
-use Rattle.blocks.specs.Blocks.{part, block, byteAt, listOf, table}
-
--- ---- a list by its entries
-
-pub length-listOf : {A : Type 0} (m : ℕ) (f : ℕ → A) → length (listOf m f) ≡ m
-unfolding listOf
-length-listOf zero f = refl
-length-listOf (suc m) f = length-append (listOf m f) (f m ∷ []) ∙ omega (arith, length-listOf m f)
-
-pub getD-listOf : {A : Type 0} (m : ℕ) (f : ℕ → A) (i : ℕ) (d : A) → i < m → getD (listOf m f) i d ≡ f i
-unfolding listOf
-getD-listOf zero f i d l = absurd (omega arith)
-getD-listOf (suc m) f i d l = go (eq-or-lt-of-le (le-of-suc-le-suc l)) (getD-listOf m f i d)
-  where
-    go : (i ≡ m) ⊎ (i < m) → (i < m → getD (listOf m f) i d ≡ f i) → getD (listOf m f ++ (f m ∷ [])) i d ≡ f i
-    go (inl e) ih = getD-at (listOf m f) (f m) [] d i (length-listOf m f ∙ sym e) ∙ ap f (sym e)
-    go (inr l′) ih = List·getD-append (listOf m f) (f m ∷ []) d i (omega (arith, length-listOf m f)) ∙ ih l′
-
-pub listOf-cong : {A : Type 0} (m : ℕ) (f g : ℕ → A) → ((i : ℕ) → i < m → f i ≡ g i) → listOf m f ≡ listOf m g
-unfolding listOf
-listOf-cong zero f g e = refl
-listOf-cong (suc m) f g e = rw (listOf-cong m f g (λ i l. e i (omega arith)), e m (omega arith))
-
--- ---- a table by its bytes
+use Rattle.basics.proofs.Lists.{length-listOf, getD-listOf, listOf-cong}
+use Rattle.blocks.specs.Blocks.{part, block, byteAt, table}
+use Rattle.basics.specs.Lists.{listOf}
 
 pub length-table : (n b : ℕ) (f : ℕ → ℕ → ℕ) → length (table n b f) ≡ n * b
 unfolding table

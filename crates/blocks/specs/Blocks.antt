@@ -5,6 +5,7 @@ use mathlib.Core.Path.{_≡_}
 use Prim.Native.Nat.{ℕ, zero, suc, _+_, _-_, _*_, _≤_, _<_}
 use lib.Bits.{bitXor}
 use lib.ListN.{length, getD, take, drop}
+use Rattle.basics.specs.Lists.{listOf}
 use Rattle.gf256.specs.Field.{product}
 
 -- the n bytes of t from a on
@@ -25,11 +26,6 @@ setBlock b j p t = setPart ((j - 1) * b) b p t
 -- byte p of block j, p from 0
 unfoldable pub byteAt : ℕ → List ℕ → ℕ → ℕ → ℕ
 byteAt b t j p = getD t ((j - 1) * b + p) 0
-
--- f 0, .. f (m − 1)
-unfoldable pub listOf : {A : Type 0} → ℕ → (ℕ → A) → List A
-listOf zero f = []
-listOf (suc m) f = listOf m f ++ (f m ∷ [])
 
 -- the table of n blocks of b bytes that has byte f j p at place p of block j
 unfoldable pub table : ℕ → ℕ → (ℕ → ℕ → ℕ) → List ℕ

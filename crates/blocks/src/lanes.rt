@@ -2,7 +2,8 @@
 ghost use mathlib.Core.Path.{_≡_};
 ghost use Prim.Native.Nat.{ℕ, _+_, _/_, _%_, _≤_};
 ghost use lib.ListN.{length, getD};
-ghost use Rattle.blocks.specs.Blocks.{part, listOf};
+ghost use Rattle.blocks.specs.Blocks.{part};
+ghost use Rattle.basics.specs.Lists.{listOf};
 ghost use Rattle.blocks.specs.Lanes.{lane, chosen};
 use crate::copy;
 

@@ -9,7 +9,7 @@ use lib.Dec.{leb, ltb, eqb}
 use borrow.Author.Tests.{ltb-false, leb-true, eqb-true, not-false, eq-eqb, le-ltb}
 use Rattle.blocks.specs.Blocks.{block, byteAt, table, Bytes}
 use Rattle.blocks.proofs.Tables.{byteAt-table, table-cong, table-self, table-append, getD-block}
-use Rattle.gf256.proofs.Computed.{never-both, and-left, and-right}
+use Rattle.basics.proofs.Tests.{never-both, and-left, and-right}
 use Rattle.code.specs.Code.{codeSizes, symbol, codeword, redundant, Codeword}
 use Rattle.code.specs.Calls.{numberOf, encoding, decoding, isIn, someOutside, given}
 use Rattle.code.specs.Decode.{NodeSet, size, invertible, lowest, recovered, recoveredTable}

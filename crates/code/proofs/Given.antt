@@ -9,8 +9,8 @@ use lib.Dec.{eqb, leb}
 use lib.ListN.{length, getD, take, drop, drop-of-length-le}
 use lib.Seq.{drop-cons, take-suc, take-all}
 use borrow.Author.Tests.{le-leb, lt-leb}
-use Rattle.blocks.specs.Blocks.{listOf}
-use Rattle.blocks.proofs.Tables.{listOf-cong}
+use Rattle.basics.specs.Lists.{listOf}
+use Rattle.basics.proofs.Lists.{listOf-cong}
 use Rattle.code.specs.Decode.{setOf, including}
 use Rattle.code.specs.Calls.{isIn, someOutside, given}
 use Rattle.code.proofs.Invertible.{eqb-comm}

@@ -7,7 +7,7 @@ use native.Mathlib.Omega.{arith}
 use lib.Bits.{bitXor}
 use lib.ListN.{length, getD}
 use Rattle.gf256.specs.Field.{double, product}
-use Rattle.gf256.proofs.Computed.{every, same-below}
+use Rattle.basics.proofs.Computed.{every, same-below}
 use Rattle.gf256.proofs.Laws.{double-add, product-double, one-product, zero-product, add-product}
 use Rattle.gf256.proofs.Xor.{bit-cases, low-bit}
 use Rattle.blocks.specs.Blocks.{Bytes}

@@ -7,7 +7,7 @@ use native.Mathlib.Decide.{ℕ-discrete, decLe}
 use native.Mathlib.Omega.{arith}
 use lib.Dec.{eqb}
 use borrow.Author.Tests.{eq-eqb, ne-eqb, le-leb, lt-leb}
-use Rattle.gf256.proofs.Computed.{never-both}
+use Rattle.basics.proofs.Tests.{never-both}
 use Rattle.gf256.proofs.Laws.{product-comm, product-zero, one-product, inverse-byte}
 use Rattle.code.specs.Code.{coefficient, row, symbol}
 use Rattle.code.specs.Decode.{recovered, each, invertible}

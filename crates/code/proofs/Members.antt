@@ -16,8 +16,8 @@ use lib.Pow.{pow-pos, pow-mono, shl-exact}
 use lib.Seq.{take-all, getD-set-same, getD-set-other, take-suc, length-take-le, getD-at}
 use borrow.Author.Tests.{eq-eqb, ne-eqb}
 use Rattle.gf256.proofs.Xor.{bit-cases}
-use Rattle.blocks.specs.Blocks.{listOf}
-use Rattle.blocks.proofs.Tables.{length-listOf, listOf-cong}
+use Rattle.basics.specs.Lists.{listOf}
+use Rattle.basics.proofs.Lists.{length-listOf, listOf-cong}
 use Rattle.code.specs.Decode.{has, setOf, including, excluding, membersFrom, members, size, setWithin}
 use Rattle.code.specs.View.{nodeSetOf}
 use Rattle.code.specs.declared.nodes.NodeSet.{NodeSet}

@@ -8,8 +8,8 @@ use native.Mathlib.Decide.{decLt}
 use native.Mathlib.Omega.{arith}
 use lib.Dec.{eqb}
 use lib.ListN.{length, getD, List·getD-eq-default}
-use Rattle.gf256.proofs.Computed.{never-both}
-use Rattle.blocks.proofs.Tables.{length-listOf, getD-listOf}
+use Rattle.basics.proofs.Tests.{never-both}
+use Rattle.basics.proofs.Lists.{length-listOf, getD-listOf}
 use Rattle.code.specs.Decode.{NodeSet, has, setOf, including, excluding, membersFrom, size, lowest, invertible}
 use Rattle.code.proofs.Sum.{All}
 use Rattle.code.proofs.Invertible.{invertible-chosen}

@@ -11,7 +11,8 @@ use lib.Seq.{getD-take, getD-set-same, getD-set-other}
 use borrow.Author.Tests.{eq-eqb, ne-eqb}
 use Rattle.gf256.specs.Field.{product}
 use Rattle.gf256.proofs.Laws.{one-product, zero-product}
-use Rattle.blocks.specs.Blocks.{block, setPart, listOf, byteAt, table, Bytes}
+use Rattle.blocks.specs.Blocks.{block, setPart, byteAt, table, Bytes}
+use Rattle.basics.specs.Lists.{listOf}
 use Rattle.blocks.proofs.Parts.{part-at, set-length}
 use Rattle.blocks.proofs.Tables.{length-table, byteAt-table, table-ext, table-cong}
 use Rattle.code.specs.Code.{sum}

@@ -8,11 +8,13 @@ use native.Mathlib.Omega.{arith}
 use lib.Bits.{bitAnd}
 use lib.ListN.{length, getD, take}
 use lib.Seq.{getD-take, length-take-le}
-use Rattle.gf256.proofs.Computed.{every, same-below}
-use Rattle.blocks.specs.Blocks.{part, setPart, listOf, table, byteAt}
+use Rattle.basics.proofs.Computed.{every, same-below}
+use Rattle.blocks.specs.Blocks.{part, setPart, table, byteAt}
+use Rattle.basics.specs.Lists.{listOf}
 use Rattle.blocks.specs.Lanes.{lane, chosen}
 use Rattle.blocks.proofs.Parts.{part-at, set-length, get-set-same, get-set-before, get-set-after}
-use Rattle.blocks.proofs.Tables.{getD-listOf, listOf-cong, length-table, byteAt-table}
+use Rattle.basics.proofs.Lists.{getD-listOf, listOf-cong}
+use Rattle.blocks.proofs.Tables.{length-table, byteAt-table}
 use Rattle.blocks.proofs.Tabled.{Tabled, listOf-is}
 use Rattle.code.specs.Kernel.{Prepared, Filled, groupSum, spread, highest}
 

@@ -9,7 +9,8 @@ use lib.Dec.{eqb}
 use lib.ListN.{length, getD}
 use Rattle.gf256.specs.Field.{product, inverse}
 use Rattle.code.specs.Code.{sum, row}
-use Rattle.blocks.specs.Blocks.{listOf, byteAt, table}
+use Rattle.basics.specs.Lists.{listOf}
+use Rattle.blocks.specs.Blocks.{byteAt, table}
 
 -- a set of nodes: place j − 1 says whether node j is in it, for the 18 nodes that a stripe has at most
 abbrev pub NodeSet : Type 0

@@ -6,7 +6,8 @@
 ghost use mathlib.Core.Path.{_≡_};
 ghost use Prim.Native.Nat.{ℕ, _+_, _-_, _*_, _/_, _%_, _≤_, _<_};
 ghost use lib.ListN.{length, getD};
-ghost use Rattle.blocks.specs.Blocks.{listOf, table, block};
+ghost use Rattle.basics.specs.Lists.{listOf};
+ghost use Rattle.blocks.specs.Blocks.{table, block};
 ghost use Rattle.blocks.specs.Lanes.{lane};
 ghost use Rattle.code.specs.Combine.{combined, mixed, Holds};
 ghost use Rattle.code.specs.Kernel;

@@ -15,7 +15,7 @@ use lib.Dec.{eqb, ltb}
 use lib.ListN.{getD}
 use borrow.Author.Tests.{ltb-true}
 use Rattle.gf256.specs.Field.{double, timesBits, product, squares, inverse, power, InverseIsInverse}
-use Rattle.gf256.proofs.Computed.{every, below, same-below}
+use Rattle.basics.proofs.Computed.{every, below, same-below}
 use Rattle.gf256.proofs.Tables.{logarithms, logarithms-are}
 use Rattle.gf256.proofs.Xor.{bit-cases, low-bit, xor-odd, xor-half, xor-double, bit-xor, xor-bit, xor-self, xor-byte, xor-low, xors}
 

@@ -1,4 +1,3 @@
-pub mod Computed
 pub mod Xor
 pub mod Tables
 pub mod Laws

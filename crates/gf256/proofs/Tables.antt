@@ -9,7 +9,7 @@ use lib.Dec.{eqb, ltb}
 use lib.ListN.{getD, set, replicate}
 use borrow.Author.Tests.{ltb-true}
 use Rattle.gf256.specs.Field.{double, power, IsPowers, IsLogarithms}
-use Rattle.gf256.proofs.Computed.{every, below, same-below}
+use Rattle.basics.proofs.Computed.{every, below, same-below}
 
 -- n numbers from x on, each the double of the one before
 unfoldable pub doublings : ℕ → ℕ → List ℕ

@@ -15,16 +15,17 @@ use Rattle.records.specs.declared.Sizes.{Sizes}
 use Rattle.records.specs.declared.WriteId.{WriteId}
 use Rattle.records.specs.Entries.{Entry, sameId, isRecent, isIn, isRecentIn, isOldIn}
 use Rattle.records.specs.Node.{Node, failedNode, isNorm, isRecons, isInit}
-use Rattle.machine.specs.Stripe.{Stripe, someOf}
+use Rattle.machine.specs.Stripe.{Stripe}
+use Rattle.basics.specs.Lists.{someOf}
 use Rattle.machine.specs.Rebuild.{oldSomewhere, recentIds, f, largest, someRecons, pickedSet}
 use Rattle.machine.specs.Rebuild as Rebuild
 use Rattle.machine.specs.Consistent as Document
-use Rattle.machine.proofs.Base.{clash, is-false, and-both, or-one, or-left, or-right, cond-ind}
+use Rattle.basics.proofs.Tests.{clash, is-false, and-both, or-one, or-left, or-right, cond-ind}
 use Rattle.machine.proofs.EntryLaws.{same-id, same-id-refl}
 use Rattle.machine.proofs.Columns.{Columns}
 use Rattle.machine.proofs.Bytes.{Block, ops}
 use Rattle.machine.proofs.View.{columns}
-use Rattle.machine.proofs.Elements.{none-at, some-at}
+use Rattle.basics.proofs.Lists.{none-at, some-at}
 use Rattle.machine.proofs.Largest.{in-position, Place, place, the-largest}
 use Rattle.machine.proofs.Rebuild.Pick.{FWithin, Consistent, all-data, beside, Resumes, Candidate, anew, resumed}
 

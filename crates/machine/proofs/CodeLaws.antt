@@ -9,7 +9,7 @@ use lib.Bits.{bitXor}
 use lib.ListN.{length}
 use borrow.Author.Tests.{le-leb}
 use Rattle.gf256.specs.Field.{product}
-use Rattle.gf256.proofs.Computed.{and-left}
+use Rattle.basics.proofs.Tests.{and-left}
 use Rattle.gf256.proofs.Xor.{xor-byte}
 use Rattle.gf256.proofs.Laws.{product-byte, product-zero, byte-low}
 use Rattle.blocks.specs.Blocks.{byteAt, Bytes}
@@ -24,7 +24,7 @@ use Rattle.code.proofs.Sum.{sum-ext, sum-zero}
 use Rattle.code.proofs.Symbols.{symbol-data, symbol-redundant, symbol-ext, symbol-change, symbol-byte}
 use Rattle.records.specs.declared.Sizes.{Sizes}
 use Rattle.records.specs.Sizes.{sizesWithin}
-use Rattle.machine.proofs.Base.{upd, upd-same, upd-other}
+use Rattle.basics.proofs.Updates.{upd, upd-same, upd-other}
 use Rattle.machine.proofs.Columns.{Ops}
 use Rattle.machine.proofs.Ledger.{IsPos, IsCodeword}
 use Rattle.machine.proofs.Invariant.{Laws, code}

@@ -12,7 +12,8 @@ use Rattle.records.specs.declared.Previous.the-variants.{Id}
 use Rattle.records.specs.Entries.{Entry, sameId, isListed, isRecentIn, isOldIn, enter}
 use Rattle.records.specs.Node.{isInit, isNorm, isRecons}
 use Rattle.records.specs.Client.{Write}
-use Rattle.machine.proofs.Base.{upd, upd-same, upd-other, each-place, same-or, clash, is-false, or-one, or-left, or-right}
+use Rattle.basics.proofs.Updates.{upd, upd-same, upd-other}
+use Rattle.basics.proofs.Tests.{each-place, same-or, clash, is-false, or-one, or-left, or-right}
 use Rattle.machine.proofs.EntryLaws.{same-id, same-id-refl, listed-enter, recent-enter, old-enter, last-enter}
 use Rattle.machine.proofs.Columns.{Ops, isUnl, isL0, Columns, setBlocks, setEntries, setHands, setFinished, setNexts, setDifferences}
 use Rattle.machine.proofs.Ledger.{Ledger, upd2}

@@ -11,7 +11,7 @@ use Rattle.records.specs.declared.WriteId.{WriteId}
 use Rattle.records.specs.declared.Previous.{Previous}
 use Rattle.records.specs.declared.Previous.the-variants.{Nothing, Id}
 use Rattle.records.specs.Entries.{Entry, sameId, marked, isRecent, isListed, isRecentIn, isOldIn, isIn, lastRecent, lastRecentAfter, enter, aged, discard, markOld}
-use Rattle.machine.proofs.Base.{clash, and-both, or-one, or-false, or-left, or-right, bool-cases, cond-ind}
+use Rattle.basics.proofs.Tests.{clash, and-both, or-one, or-false, or-left, or-right, bool-cases, cond-ind}
 
 pub same-id : (a b : WriteId) → sameId a b ≡ true → a ≡ b
 unfolding sameId

@@ -15,7 +15,8 @@ use Rattle.records.specs.declared.Previous.the-variants.{Id}
 use Rattle.records.specs.Entries.{Entry, isListed, isRecentIn, isOldIn, lastRecent}
 use Rattle.records.specs.Node.{isInit, isNorm, isRecons}
 use Rattle.records.specs.Client.{Write, Rebuild, NoRebuild, Locking, Picking, Writing, Settling, Unlocking}
-use Rattle.machine.proofs.Base.{upd, upd-same, upd-other, same-or, clash, is-false}
+use Rattle.basics.proofs.Updates.{upd, upd-same, upd-other}
+use Rattle.basics.proofs.Tests.{same-or, clash, is-false}
 use Rattle.machine.proofs.Columns.{Ops, Lock, L1, isUnl, isL0, Columns}
 use Rattle.machine.proofs.Ledger.{Ledger, IsPos, upd2}
 use Rattle.machine.proofs.Invariant.{Ghost, Laws, code, IsNode, Spot, at, Between, Live, Unwritten, OnCut, Settled, Among, ListOk, NodeOk, Own, HandOk, writes, PhaseOk, RebuildOk, Inv}

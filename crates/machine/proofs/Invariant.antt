@@ -17,7 +17,7 @@ use Rattle.records.specs.Entries.{Entry, isListed, isRecentIn, isOldIn, isIn, l
 use Rattle.records.specs.Node.{isInit, isNorm, isRecons}
 use Rattle.records.specs.Node as Node
 use Rattle.records.specs.Client.{Write, Rebuild, NoRebuild, Locking, Picking, Writing, Settling, Unlocking}
-use Rattle.machine.proofs.Base.{upd}
+use Rattle.basics.proofs.Updates.{upd}
 use Rattle.machine.proofs.Columns.{Ops, Lock, L1, isUnl, isL0, heldBy, Columns}
 use Rattle.machine.proofs.Ledger.{Ledger, IsPos}
 

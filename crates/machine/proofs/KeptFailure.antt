@@ -11,12 +11,13 @@ use Rattle.records.specs.declared.Refusal.{Refusal}
 use Rattle.records.specs.Sizes.{sizesWithin}
 use Rattle.records.specs.Node.{Node, failedNode, expiredFor}
 use Rattle.records.specs.Client.{Client, freshClient, stopped}
-use Rattle.machine.specs.Stripe.{Stripe, Accepted, Outcome, Local, answered, guard, clientAt, setAt, atNode, putNode, whole, blocksFit}
+use Rattle.machine.specs.Stripe.{Stripe, Accepted, Outcome, Local, answered, guard, clientAt, atNode, putNode, whole, blocksFit}
+use Rattle.basics.specs.Lists.{setAt}
 use Rattle.machine.specs.Calls.{Call, step}
 use Rattle.machine.specs.Calls as Calls
 use Rattle.machine.specs.Failure as Failure
 use Rattle.machine.specs.Rebuild.{outOfLimits}
-use Rattle.machine.proofs.Base.{and-both}
+use Rattle.basics.proofs.Tests.{and-both}
 use Rattle.machine.proofs.Columns.{Columns}
 use Rattle.machine.proofs.Ledger.{Ledger}
 use Rattle.machine.proofs.Invariant.{Laws, Good}

@@ -9,7 +9,7 @@ use native.Mathlib.Omega.{arith}
 use lib.Dec.{eqb, leb, ltb}
 use lib.ListN.{length, length-map}
 use borrow.Author.Tests.{leb-true, ltb-true, ltb-false, eqb-true, not-false}
-use Rattle.gf256.proofs.Computed.{and-left, and-right}
+use Rattle.basics.proofs.Tests.{and-left, and-right}
 use Rattle.blocks.specs.Blocks.{block, setBlock, Bytes}
 use Rattle.code.specs.Decode.{NodeSet, size, recoveredTable}
 use Rattle.records.specs.declared.Sizes.{Sizes}
@@ -25,12 +25,14 @@ use Rattle.records.specs.Node.{Node, failedNode, withLmode, expiredFor, lockedB
 use Rattle.records.specs.Node as Node
 use Rattle.records.specs.Client as Records
 use Rattle.records.specs.Client.{Rebuild, NoRebuild, Locking, Picking, Writing, Settling, Unlocking, hasRebuild, withRebuild, unlOrExp, rebuildWithin, clientWithin}
-use Rattle.machine.specs.Stripe.{Stripe, Answer, Accepted, Rebuilt, Refused, number, Outcome, Whole, answered, refused, guard, nodeAt, clientAt, setAt, whole, nodesFit, everyOf}
+use Rattle.machine.specs.Stripe.{Stripe, Answer, Accepted, Rebuilt, Refused, number, Outcome, Whole, answered, refused, guard, nodeAt, clientAt, whole, nodesFit}
+use Rattle.basics.specs.Lists.{setAt, everyOf}
 use Rattle.machine.specs.Calls.{Call, step}
 use Rattle.machine.specs.Calls as Calls
 use Rattle.machine.specs.Rebuild as Rebuild
 use Rattle.machine.specs.Rebuild.{advanced, holding, outOfLimits, restored, someRecons, pickedSet, countInit, neededSize, largestEpoch}
-use Rattle.machine.proofs.Base.{upd, clash, or-one, or-none, cond-ind}
+use Rattle.basics.proofs.Updates.{upd}
+use Rattle.basics.proofs.Tests.{clash, or-one, or-none, cond-ind}
 use Rattle.machine.proofs.Columns.{Ops, Columns, Lock, L0, heldBy, setBlocks, setLocks, setPhases}
 use Rattle.machine.proofs.Ledger as Ledger
 use Rattle.machine.proofs.Ledger.{Ledger, note}
@@ -39,7 +41,8 @@ use Rattle.machine.proofs.Bytes.{Block, blockOf, ops}
 use Rattle.machine.proofs.View.{columns, lockOf, withNode, withClient, withNodes, put-node, put-client, upd-keep, setAt-length, held-is, l1-is, locked-is, exp-is}
 use Rattle.machine.proofs.Kept.{Fits, Kept, KeptWhole, entry, refusal-number, whole-refused}
 use Rattle.machine.proofs.Tables.{put-block, length-put, length-block, bytes-put, bytes-block, block-view, length-rebuilt, bytes-rebuilt, rebuilt-blocks}
-use Rattle.machine.proofs.Elements.{every-at, none-at, length-from, length-restored, epoch-at-most}
+use Rattle.basics.proofs.Lists.{every-at, none-at, length-from}
+use Rattle.machine.proofs.Elements.{length-restored, epoch-at-most}
 use Rattle.machine.proofs.Relocks.{LockedAs, weakened-each, expired-each, restored-each}
 use Rattle.machine.proofs.Candidates.{picked-candidate}
 use Rattle.machine.proofs.Rebuild.Locks.{expired, givenBack, LocksNext, relocked, lost, quit-good, give-back-good, lock-good, weaken-good, tighten-good, unlock-good}

@@ -11,8 +11,9 @@ use Rattle.code.specs.Decode.{noNodes}
 use Rattle.records.specs.declared.Sizes.{Sizes}
 use Rattle.records.specs.Node.{Node, freshNode, failedNode, isInit, isRecons}
 use Rattle.records.specs.Client.{Client, freshClient}
-use Rattle.machine.specs.Stripe.{elementAt, nodeAt, clientAt, fresh}
-use Rattle.machine.proofs.Base.{clash}
+use Rattle.basics.specs.Lists.{elementAt}
+use Rattle.machine.specs.Stripe.{nodeAt, clientAt, fresh}
+use Rattle.basics.proofs.Tests.{clash}
 use Rattle.machine.proofs.Columns.{Unl}
 use Rattle.machine.proofs.Ledger.{noLedger}
 use Rattle.machine.proofs.Invariant.{Laws, IsNode, Good}

@@ -21,11 +21,13 @@ use Rattle.records.specs.Sizes.{sizesWithin, isClient, isPosition, isNode, isRe
 use Rattle.records.specs.Node.{Node, withEntries, failedNode, nodeWithin}
 use Rattle.records.specs.Node as Node
 use Rattle.records.specs.Client.{Client, Write, began, finishedWrite, withHand, sweptOn, clientWithin}
-use Rattle.machine.specs.Stripe.{Stripe, Answer, Accepted, CheckInit, CheckGc, NoChange, Outcome, answered, guard, Local, nodeAt, clientAt, setAt, atNode, putNode, blocksFit, differencesFit}
+use Rattle.machine.specs.Stripe.{Stripe, Answer, Accepted, CheckInit, CheckGc, NoChange, Outcome, answered, guard, Local, nodeAt, clientAt, atNode, putNode, blocksFit, differencesFit}
+use Rattle.basics.specs.Lists.{setAt}
 use Rattle.machine.specs.Calls.{Call, step}
 use Rattle.machine.specs.Calls as Calls
 use Rattle.machine.specs.Writing as Writing
-use Rattle.machine.proofs.Base.{upd, and-both, cond-ind}
+use Rattle.basics.proofs.Updates.{upd}
+use Rattle.basics.proofs.Tests.{and-both, cond-ind}
 use Rattle.machine.proofs.Columns.{Columns, setBlocks, setEntries, setHands, setFinished, setNexts, setDifferences}
 use Rattle.machine.proofs.Ledger.{Ledger, note}
 use Rattle.machine.proofs.Invariant.{Laws, Good}

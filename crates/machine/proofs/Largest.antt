@@ -18,10 +18,11 @@ use Rattle.records.specs.declared.Sizes.{Sizes}
 use Rattle.records.specs.declared.WriteId.{WriteId}
 use Rattle.records.specs.Entries.{sameId, isIn}
 use Rattle.records.specs.Node.{Node, failedNode, isNorm}
-use Rattle.machine.specs.Stripe.{elementAt, nodeAt, everyOf}
+use Rattle.basics.specs.Lists.{elementAt, everyOf}
+use Rattle.machine.specs.Stripe.{nodeAt}
 use Rattle.machine.specs.Rebuild.{f, atPosition, sameIds, fits, allData, besides, largest}
 use Rattle.machine.specs.Consistent.{SameSet, Redundant, Consistent, AllData, Lowest, Tie, TheLargest, PicksTheLargest, OneLargest}
-use Rattle.machine.proofs.Base.{bool-cases, clash, and-both, or-one, or-left, or-right, cond-ind}
+use Rattle.basics.proofs.Tests.{bool-cases, clash, and-both, or-one, or-left, or-right, cond-ind}
 use Rattle.machine.proofs.EntryLaws.{same-id, same-id-refl}
 
 -- tests that imply each other

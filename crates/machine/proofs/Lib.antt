@@ -1,5 +1,4 @@
--- tests, lists of entries, sets of nodes
-pub mod Base
+-- lists of entries, sets of nodes
 pub mod EntryLaws
 pub mod Sets
 -- the invariant, on a stripe as columns, with the history as a ledger

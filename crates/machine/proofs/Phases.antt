@@ -7,7 +7,8 @@ use borrow.Author.Tests.{eqb-true, eq-eqb}
 use Rattle.records.specs.declared.Opmode.{Opmode}
 use Rattle.records.specs.Node.{isInit, isNorm}
 use Rattle.records.specs.Client.{Rebuild, NoRebuild, Locking, Picking, Writing, Settling, Unlocking}
-use Rattle.machine.proofs.Base.{upd, upd-ind, clash, is-false}
+use Rattle.basics.proofs.Updates.{upd, upd-ind}
+use Rattle.basics.proofs.Tests.{clash, is-false}
 use Rattle.machine.proofs.Columns.{Ops, Lock, Unl, Exp, L0, L1, isLocked, heldBy, Columns}
 use Rattle.machine.proofs.Ledger.{Ledger}
 use Rattle.machine.proofs.Invariant.{Ghost, IsNode, writes, PhaseOk, RebuildOk, Inv}

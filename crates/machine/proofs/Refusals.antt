@@ -26,7 +26,7 @@ use Rattle.machine.specs.Writing as Writing
 use Rattle.machine.specs.Rebuild as Rebuild
 use Rattle.machine.specs.Failure as Failure
 use Rattle.machine.specs.Calls.{Call, Read, Pick, Swap, Fail, At, By, stepAt, stepBy, step, RefusedUnchanged}
-use Rattle.machine.proofs.Base.{clash, cond-ind}
+use Rattle.basics.proofs.Tests.{clash, cond-ind}
 use Rattle.machine.proofs.View.{put-back, put-whole-back}
 use Rattle.machine.proofs.Kept.{refusal-number}
 

@@ -15,13 +15,15 @@ use Rattle.records.specs.declared.Holder.the-variants.{Nobody, Client}
 use Rattle.records.specs.Node.{Node, failedNode, withLmode, expiredFor, weakenedBy}
 use Rattle.records.specs.Node as Node
 use Rattle.records.specs.Client.{unlOrExp}
-use Rattle.machine.specs.Stripe.{elementAt, nodeAt}
+use Rattle.basics.specs.Lists.{elementAt}
+use Rattle.machine.specs.Stripe.{nodeAt}
 use Rattle.machine.specs.Rebuild.{restored, weakened}
-use Rattle.machine.proofs.Base.{clash}
+use Rattle.basics.proofs.Tests.{clash}
 use Rattle.machine.proofs.Columns.{Lock, Unl, Exp, L0, heldBy}
 use Rattle.machine.proofs.Invariant.{wasExp}
 use Rattle.machine.proofs.View.{lockOf, lockIn, held-is}
-use Rattle.machine.proofs.Elements.{map-at, from-at, restored-first, restored-rest, unl-or-exp}
+use Rattle.basics.proofs.Lists.{map-at, from-at}
+use Rattle.machine.proofs.Elements.{restored-first, restored-rest, unl-or-exp}
 use Rattle.machine.proofs.Rebuild.Locks.{expired, givenBack}
 
 -- y is x with the lock l

@@ -16,7 +16,7 @@ use Rattle.blocks.specs.Blocks.{block}
 use Rattle.records.specs.declared.Sizes.{Sizes}
 use Rattle.machine.specs.History.{Event, Kind, SwapInto, AddBy, PickBy, SettleBy, Failure, Other, happened, isDone, finishesBy, finishes, nodesAt, given, Written, writeAt, gathered, swapsAt, reportBy, reportedAt, allSwapsAt, allReportedAt, isAmong, lastValue}
 use Rattle.machine.specs.Guarantee.{PartOf, FirstPart}
-use Rattle.machine.proofs.Base.{clash, or-one, or-left, or-right, bool-cases}
+use Rattle.basics.proofs.Tests.{clash, or-one, or-left, or-right, bool-cases}
 use Rattle.machine.proofs.Tables.{zero-block}
 use Rattle.machine.proofs.Told.{among-append}
 

@@ -9,7 +9,7 @@ use lib.Dec.{eqb}
 use borrow.Author.Tests.{eq-eqb, ne-eqb}
 use Rattle.code.specs.Decode.{NodeSet, has, setOf, noNodes, including, excluding, each}
 use Rattle.code.proofs.NodeSets.{has-setOf, has-zero, has-within, length-setOf}
-use Rattle.machine.proofs.Base.{is-false, and-both}
+use Rattle.basics.proofs.Tests.{is-false, and-both}
 use Rattle.machine.proofs.Columns.{Ops}
 use Rattle.machine.proofs.Invariant.{Laws, IsNode}
 

@@ -1,5 +1,6 @@
 -- The starred examples of document 01, all at once, by computation. Assumes nothing.
 use mathlib.Core.Path.{_≡_, refl}
+use Rattle.basics.specs.Lists as Lists
 use Rattle.gf256.specs.Field as Field
 use Rattle.blocks.specs.Blocks as Blocks
 use Rattle.code.specs.Code as Code
@@ -19,19 +20,19 @@ use Rattle.machine.specs.Examples.{after, times, rebuiltAfter, halfWritt
 
 -- One by one: compared as one list they would not compute within the checker's limit.
 coded : (c1 ≡ d1) × (c2 ≡ d2) × (c3 ≡ d3) × (c4 ≡ d4) × (c5 ≡ d5)
-unfolding Field.double Field.timesBits Field.product Field.squares Field.inverse Blocks.part Blocks.setPart Blocks.byteAt Blocks.listOf Blocks.table Blocks.zip Code.codeSizes Code.sum Code.coefficient Code.row Code.symbol Code.redundant Decode.has Decode.setOf Decode.membersFrom Decode.others Decode.scale Decode.recover Decode.recovered Decode.recoveredTable Decode.each Decode.invertible Calls.isIn
+unfolding Field.double Field.timesBits Field.product Field.squares Field.inverse Blocks.part Blocks.setPart Blocks.byteAt Lists.listOf Blocks.table Blocks.zip Code.codeSizes Code.sum Code.coefficient Code.row Code.symbol Code.redundant Decode.has Decode.setOf Decode.membersFrom Decode.others Decode.scale Decode.recover Decode.recovered Decode.recoveredTable Decode.each Decode.invertible Calls.isIn
 coded = (refl, refl, refl, refl, refl)
 
 six : rebuiltAfter 1 halfWritten ≡ 1 ∷ 2 ∷ 3 ∷ 1 ∷ 0 ∷ 142 ∷ 244 ∷ 1 ∷ 1 ∷ []
-unfolding after times step Field.double Field.timesBits Field.product Field.squares Field.inverse Blocks.part Blocks.setPart Blocks.byteAt Blocks.listOf Blocks.table Blocks.zip Code.codeSizes Code.sum Code.coefficient Code.row Code.symbol Code.redundant Decode.has Decode.setOf Decode.membersFrom Decode.others Decode.scale Decode.recover Decode.recovered Decode.recoveredTable Decode.each Decode.invertible Calls.isIn Sizes.sizesWithin Entries.sameId Entries.isIn Entries.isListed Entries.isRecentIn Entries.isOldIn Entries.lastRecentAfter Entries.aged Node.idWithin Node.entriesWithin Node.setWithin Node.nodeWithin Client.idsWithin Client.unlOrExp Client.clientWithin Stripe.elementAt Stripe.setAt Stripe.guard Stripe.everyOf Stripe.someOf Writing.swap Writing.addEnter Writing.addAfter Writing.addWrite Writing.add Failure.stop Failure.fail Rebuild.holding Rebuild.lockNode Rebuild.lockIn Rebuild.lock Rebuild.recentIds Rebuild.atPosition Rebuild.largest Rebuild.countInit Rebuild.largestEpoch Rebuild.pickNow Rebuild.pickIn Rebuild.pick Rebuild.writeIn Rebuild.write Rebuild.settleIn Rebuild.settle
+unfolding after times step Field.double Field.timesBits Field.product Field.squares Field.inverse Blocks.part Blocks.setPart Blocks.byteAt Lists.listOf Blocks.table Blocks.zip Code.codeSizes Code.sum Code.coefficient Code.row Code.symbol Code.redundant Decode.has Decode.setOf Decode.membersFrom Decode.others Decode.scale Decode.recover Decode.recovered Decode.recoveredTable Decode.each Decode.invertible Calls.isIn Sizes.sizesWithin Entries.sameId Entries.isIn Entries.isListed Entries.isRecentIn Entries.isOldIn Entries.lastRecentAfter Entries.aged Node.idWithin Node.entriesWithin Node.setWithin Node.nodeWithin Client.idsWithin Client.unlOrExp Client.clientWithin Lists.elementAt Lists.setAt Stripe.guard Lists.everyOf Lists.someOf Writing.swap Writing.addEnter Writing.addAfter Writing.addWrite Writing.add Failure.stop Failure.fail Rebuild.holding Rebuild.lockNode Rebuild.lockIn Rebuild.lock Rebuild.recentIds Rebuild.atPosition Rebuild.largest Rebuild.countInit Rebuild.largestEpoch Rebuild.pickNow Rebuild.pickIn Rebuild.pick Rebuild.writeIn Rebuild.write Rebuild.settleIn Rebuild.settle
 six = refl
 
 seven : c7 ≡ d7
-unfolding after times step Field.double Field.timesBits Field.product Field.squares Field.inverse Blocks.part Blocks.setPart Blocks.byteAt Blocks.listOf Blocks.table Blocks.zip Code.codeSizes Code.sum Code.coefficient Code.row Code.symbol Code.redundant Decode.has Decode.setOf Decode.membersFrom Decode.others Decode.scale Decode.recover Decode.recovered Decode.recoveredTable Decode.each Decode.invertible Calls.isIn Sizes.sizesWithin Entries.sameId Entries.isIn Entries.isListed Entries.isRecentIn Entries.isOldIn Entries.lastRecentAfter Entries.aged Node.idWithin Node.entriesWithin Node.setWithin Node.nodeWithin Client.idsWithin Client.unlOrExp Client.clientWithin Stripe.elementAt Stripe.setAt Stripe.guard Stripe.everyOf Stripe.someOf Writing.swap Writing.addEnter Writing.addAfter Writing.addWrite Writing.add Failure.stop Failure.fail Rebuild.holding Rebuild.lockNode Rebuild.lockIn Rebuild.lock Rebuild.recentIds Rebuild.atPosition Rebuild.largest Rebuild.countInit Rebuild.largestEpoch Rebuild.pickNow Rebuild.pickIn Rebuild.pick Rebuild.writeIn Rebuild.write Rebuild.settleIn Rebuild.settle
+unfolding after times step Field.double Field.timesBits Field.product Field.squares Field.inverse Blocks.part Blocks.setPart Blocks.byteAt Lists.listOf Blocks.table Blocks.zip Code.codeSizes Code.sum Code.coefficient Code.row Code.symbol Code.redundant Decode.has Decode.setOf Decode.membersFrom Decode.others Decode.scale Decode.recover Decode.recovered Decode.recoveredTable Decode.each Decode.invertible Calls.isIn Sizes.sizesWithin Entries.sameId Entries.isIn Entries.isListed Entries.isRecentIn Entries.isOldIn Entries.lastRecentAfter Entries.aged Node.idWithin Node.entriesWithin Node.setWithin Node.nodeWithin Client.idsWithin Client.unlOrExp Client.clientWithin Lists.elementAt Lists.setAt Stripe.guard Lists.everyOf Lists.someOf Writing.swap Writing.addEnter Writing.addAfter Writing.addWrite Writing.add Failure.stop Failure.fail Rebuild.holding Rebuild.lockNode Rebuild.lockIn Rebuild.lock Rebuild.recentIds Rebuild.atPosition Rebuild.largest Rebuild.countInit Rebuild.largestEpoch Rebuild.pickNow Rebuild.pickIn Rebuild.pick Rebuild.writeIn Rebuild.write Rebuild.settleIn Rebuild.settle
 seven = refl
 
 eight : rebuiltAfter 1 (halfWritten ++ (Fail 1 (9 ∷ []) ∷ [])) ≡ 2 ∷ 3 ∷ 1 ∷ 0 ∷ 142 ∷ 244 ∷ 1 ∷ 1 ∷ []
-unfolding after times step Field.double Field.timesBits Field.product Field.squares Field.inverse Blocks.part Blocks.setPart Blocks.byteAt Blocks.listOf Blocks.table Blocks.zip Code.codeSizes Code.sum Code.coefficient Code.row Code.symbol Code.redundant Decode.has Decode.setOf Decode.membersFrom Decode.others Decode.scale Decode.recover Decode.recovered Decode.recoveredTable Decode.each Decode.invertible Calls.isIn Sizes.sizesWithin Entries.sameId Entries.isIn Entries.isListed Entries.isRecentIn Entries.isOldIn Entries.lastRecentAfter Entries.aged Node.idWithin Node.entriesWithin Node.setWithin Node.nodeWithin Client.idsWithin Client.unlOrExp Client.clientWithin Stripe.elementAt Stripe.setAt Stripe.guard Stripe.everyOf Stripe.someOf Writing.swap Writing.addEnter Writing.addAfter Writing.addWrite Writing.add Failure.stop Failure.fail Rebuild.holding Rebuild.lockNode Rebuild.lockIn Rebuild.lock Rebuild.recentIds Rebuild.atPosition Rebuild.largest Rebuild.countInit Rebuild.largestEpoch Rebuild.pickNow Rebuild.pickIn Rebuild.pick Rebuild.writeIn Rebuild.write Rebuild.settleIn Rebuild.settle
+unfolding after times step Field.double Field.timesBits Field.product Field.squares Field.inverse Blocks.part Blocks.setPart Blocks.byteAt Lists.listOf Blocks.table Blocks.zip Code.codeSizes Code.sum Code.coefficient Code.row Code.symbol Code.redundant Decode.has Decode.setOf Decode.membersFrom Decode.others Decode.scale Decode.recover Decode.recovered Decode.recoveredTable Decode.each Decode.invertible Calls.isIn Sizes.sizesWithin Entries.sameId Entries.isIn Entries.isListed Entries.isRecentIn Entries.isOldIn Entries.lastRecentAfter Entries.aged Node.idWithin Node.entriesWithin Node.setWithin Node.nodeWithin Client.idsWithin Client.unlOrExp Client.clientWithin Lists.elementAt Lists.setAt Stripe.guard Lists.everyOf Lists.someOf Writing.swap Writing.addEnter Writing.addAfter Writing.addWrite Writing.add Failure.stop Failure.fail Rebuild.holding Rebuild.lockNode Rebuild.lockIn Rebuild.lock Rebuild.recentIds Rebuild.atPosition Rebuild.largest Rebuild.countInit Rebuild.largestEpoch Rebuild.pickNow Rebuild.pickIn Rebuild.pick Rebuild.writeIn Rebuild.write Rebuild.settleIn Rebuild.settle
 eight = refl
 
 -- the list of examples is the document's

@@ -11,7 +11,7 @@ use borrow.Author.Tests.{leb-true, leb-false, eqb-true}
 use Rattle.code.specs.Decode.{has, noNodes}
 use Rattle.records.specs.Node.{isInit, isRecons}
 use Rattle.records.specs.Client.{NoRebuild}
-use Rattle.machine.proofs.Base.{clash, is-false, bool-cases, not-some}
+use Rattle.basics.proofs.Tests.{clash, is-false, bool-cases, not-some}
 use Rattle.machine.proofs.EntryLaws.{in-nil, listed-nil}
 use Rattle.machine.proofs.Columns.{Ops, Unl, Columns}
 use Rattle.machine.proofs.Ledger.{Ledger, IsPos, IsCodeword, Steady, AllDone, noLedger, zeroth}

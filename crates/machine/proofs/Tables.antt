@@ -15,7 +15,8 @@ use borrow.Author.Tests.{ltb-true, ltb-false, lt-ltb, le-ltb, le-leb, lt-leb}
 use Rattle.gf256.specs.Field.{product}
 use Rattle.gf256.proofs.Xor.{xor-byte, xor-low}
 use Rattle.gf256.proofs.Laws.{product-byte, product-low, product-zero, byte-low}
-use Rattle.blocks.specs.Blocks.{part, setPart, block, setBlock, byteAt, listOf, table, zip, difference, addTimes, Bytes}
+use Rattle.blocks.specs.Blocks.{part, setPart, block, setBlock, byteAt, table, zip, difference, addTimes, Bytes}
+use Rattle.basics.specs.Lists.{listOf}
 use Rattle.blocks.proofs.Fill.{zip-length, zip-at}
 use Rattle.blocks.proofs.Parts.{part-length, set-length, get-set-same, block-fits, block-at, block-other}
 use Rattle.blocks.proofs.Tables.{byteAt-table, length-table}
@@ -25,7 +26,8 @@ use Rattle.code.proofs.NodeSets.{lowest-from}
 use Rattle.code.proofs.Recover.{recovered-ext, recovered-low, recovered-byte}
 use Rattle.code.proofs.Sum.{sum-zero}
 use Rattle.records.specs.declared.Sizes.{Sizes}
-use Rattle.machine.proofs.Base.{upd, upd-ind, cond-ind}
+use Rattle.basics.proofs.Updates.{upd, upd-ind}
+use Rattle.basics.proofs.Tests.{cond-ind}
 use Rattle.machine.proofs.Columns.{Ops}
 use Rattle.machine.proofs.Bytes.{byteOf, byte-eq, Block, zeroBlock, view, blockOf, ops}
 

@@ -24,7 +24,7 @@ use Rattle.machine.specs.Calls.{Call, Read, Pick, Swap, Fail, At, By, st
 use Rattle.machine.specs.Calls as Calls
 use Rattle.machine.specs.History.{Event, Kind, SwapInto, AddBy, PickBy, SettleBy, Failure, Other, kind, happened, accepted, nodesAt, sizesAt, finishes}
 use Rattle.machine.specs.Guarantee.{Request, Run, Allowed, AllAllowed, made, play, start, valueOf, RebuiltWell, Holds, EveryList, Demand3, PartOfAll, KeepsDone}
-use Rattle.machine.proofs.Base.{clash, and-both, bool-cases, cond-ind}
+use Rattle.basics.proofs.Tests.{clash, and-both, bool-cases, cond-ind}
 use Rattle.machine.proofs.Ledger.{Ledger, Rebuilt, note, noLedger}
 use Rattle.machine.proofs.Invariant.{Laws, Good}
 use Rattle.machine.proofs.Bytes.{Block, blockOf, ops}

@@ -19,11 +19,12 @@ use borrow.Author.Tests.{eqb-true, eq-eqb, ne-eqb}
 use Rattle.blocks.specs.Blocks.{block, Bytes}
 use Rattle.records.specs.declared.Sizes.{Sizes}
 use Rattle.records.specs.Sizes.{sizesWithin}
-use Rattle.machine.specs.Stripe.{elementAt}
+use Rattle.basics.specs.Lists.{elementAt}
 use Rattle.machine.specs.History.{Event, Kind, SwapInto, AddBy, PickBy, SettleBy, Failure, Other, accepted, kind, happened, isDone, countSettle, settles, nodesAt, sizesAt, finishesBy, finishes, given, Written, writeAt, writeBy, gathered, swapsAt, lastSwap, ifAt, reportBy, reportedAt, isFailure, failedSince, isAmong, lastValue}
 use Rattle.machine.specs.Guarantee.{FirstPart, RebuiltWell, LastValues}
 use Rattle.machine.specs.Guarantee as Guarantee
-use Rattle.machine.proofs.Base.{clash, or-one, or-false, or-left, or-right, each-place, upd, upd-same, upd-other, upd-ind, cond-ind}
+use Rattle.basics.proofs.Tests.{clash, or-one, or-false, or-left, or-right, each-place, cond-ind}
+use Rattle.basics.proofs.Updates.{upd, upd-same, upd-other, upd-ind}
 use Rattle.machine.proofs.Ledger.{upd2, Swapped, Ledger, Report, Quiet, noteSwap, noteDone, noteCount, noteFinish, isLast, noteSettle, note, noLedger, IsPart, Rebuilt, Steady, AllDone}
 use Rattle.machine.proofs.Frame.{upd2-same, upd2-ind}
 use Rattle.machine.proofs.Bytes.{Block, view, blockOf, ops}

@@ -18,8 +18,10 @@ use Rattle.records.specs.Node.{Node, failedNode, isHolder}
 use Rattle.records.specs.Node as Node
 use Rattle.records.specs.Client as Client
 use Rattle.records.specs.Client.{freshClient}
-use Rattle.machine.specs.Stripe.{Stripe, Outcome, answered, refused, Local, Whole, elementAt, nodeAt, clientAt, setAt, atNode, putNode, onNode, whole, putWhole, onWhole}
-use Rattle.machine.proofs.Base.{upd, upd-same, upd-other, same-or, clash}
+use Rattle.machine.specs.Stripe.{Stripe, Outcome, answered, refused, Local, Whole, nodeAt, clientAt, atNode, putNode, onNode, whole, putWhole, onWhole}
+use Rattle.basics.specs.Lists.{elementAt, setAt}
+use Rattle.basics.proofs.Updates.{upd, upd-same, upd-other}
+use Rattle.basics.proofs.Tests.{same-or, clash}
 use Rattle.machine.proofs.Columns.{Columns, Lock, Unl, Exp, L0, L1, isUnl, isExp, isL0, isLocked, heldBy, setOps, setLocks, setEpochs, setRsets, setEntries, setHands, setPhases, setFinished, setNexts}
 use Rattle.machine.proofs.Bytes.{Block, blockOf}
 

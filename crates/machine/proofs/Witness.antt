@@ -12,6 +12,7 @@ use native.Mathlib.Omega.{arith}
 use lib.Dec.{eqb}
 use lib.ListN.{length, getD}
 use borrow.Author.Tests.{eqb-true}
+use Rattle.basics.specs.Lists as Lists
 use Rattle.records.specs.declared.Sizes.{Sizes}
 use Rattle.gf256.specs.Field as Field
 use Rattle.blocks.specs.Blocks as Blocks
@@ -23,7 +24,7 @@ use Rattle.records.specs.Entries as Entries
 use Rattle.records.specs.Node as Node
 use Rattle.records.specs.Client as Client
 use Rattle.machine.specs.Stripe as Stripe
-use Rattle.machine.specs.Stripe.{everyOf}
+use Rattle.basics.specs.Lists.{everyOf}
 use Rattle.machine.specs.Writing as Writing
 use Rattle.machine.specs.Rebuild as Rebuild
 use Rattle.machine.specs.Failure as Failure
@@ -32,7 +33,7 @@ use Rattle.machine.specs.History as History
 use Rattle.machine.specs.History.{Event, Written, nodesAt, sizesAt, finishes, swapsAt, reportedAt, failedSince, isAmong}
 use Rattle.machine.specs.Guarantee.{Request, Run, AllAllowed, AllDone, LastValues, RebuiltWell, Holds, valueOf, made, play, start}
 use Rattle.machine.specs.Examples.{sizes, times, locks, halfWritten}
-use Rattle.machine.proofs.Base.{clash, and-both}
+use Rattle.basics.proofs.Tests.{clash, and-both}
 use Rattle.machine.proofs.Theorem.{demand3}
 
 abbrev z : Sizes
@@ -82,12 +83,12 @@ ended (e ∷ past) = record { finished = finishes z e past; blocks = e .blocks; 
 -- example 6
 pub half-rebuilt : ended (pastOf (halfWritten ++ rebuild)) ≡
     record { finished = true; blocks = 1 ∷ 0 ∷ 142 ∷ 244 ∷ []; swaps = theWrite ∷ []; reported = [] }
-unfolding times step Field.double Field.timesBits Field.product Field.squares Field.inverse Blocks.part Blocks.setPart Blocks.byteAt Blocks.listOf Blocks.table Blocks.zip Code.codeSizes Code.sum Code.coefficient Code.row Code.symbol Code.redundant Decode.has Decode.setOf Decode.membersFrom Decode.others Decode.scale Decode.recover Decode.recovered Decode.recoveredTable Decode.each Decode.invertible Sizes.sizesWithin Entries.sameId Entries.isIn Entries.isListed Entries.isRecentIn Entries.isOldIn Entries.lastRecentAfter Entries.aged Node.idWithin Node.entriesWithin Node.setWithin Node.nodeWithin Client.idsWithin Client.unlOrExp Client.clientWithin Stripe.elementAt Stripe.setAt Stripe.guard Stripe.everyOf Stripe.someOf Writing.swap Writing.addEnter Writing.addAfter Writing.addWrite Writing.add Failure.stop Failure.fail Rebuild.holding Rebuild.lockNode Rebuild.lockIn Rebuild.lock Rebuild.recentIds Rebuild.atPosition Rebuild.largest Rebuild.countInit Rebuild.largestEpoch Rebuild.pickNow Rebuild.pickIn Rebuild.pick Rebuild.writeIn Rebuild.write Rebuild.settleIn Rebuild.settle made play History.settles History.nodesAt History.finishes History.swapsAt History.lastSwap History.reportedAt History.failedSince History.gathered
+unfolding times step Field.double Field.timesBits Field.product Field.squares Field.inverse Blocks.part Blocks.setPart Blocks.byteAt Lists.listOf Blocks.table Blocks.zip Code.codeSizes Code.sum Code.coefficient Code.row Code.symbol Code.redundant Decode.has Decode.setOf Decode.membersFrom Decode.others Decode.scale Decode.recover Decode.recovered Decode.recoveredTable Decode.each Decode.invertible Sizes.sizesWithin Entries.sameId Entries.isIn Entries.isListed Entries.isRecentIn Entries.isOldIn Entries.lastRecentAfter Entries.aged Node.idWithin Node.entriesWithin Node.setWithin Node.nodeWithin Client.idsWithin Client.unlOrExp Client.clientWithin Lists.elementAt Lists.setAt Stripe.guard Lists.everyOf Lists.someOf Writing.swap Writing.addEnter Writing.addAfter Writing.addWrite Writing.add Failure.stop Failure.fail Rebuild.holding Rebuild.lockNode Rebuild.lockIn Rebuild.lock Rebuild.recentIds Rebuild.atPosition Rebuild.largest Rebuild.countInit Rebuild.largestEpoch Rebuild.pickNow Rebuild.pickIn Rebuild.pick Rebuild.writeIn Rebuild.write Rebuild.settleIn Rebuild.settle made play History.settles History.nodesAt History.finishes History.swapsAt History.lastSwap History.reportedAt History.failedSince History.gathered
 half-rebuilt = refl
 
 pub done-rebuilt : ended (pastOf (written ++ rebuild)) ≡
     record { finished = true; blocks = 1 ∷ 0 ∷ 142 ∷ 244 ∷ []; swaps = theWrite ∷ []; reported = theWrite ∷ [] }
-unfolding times step Field.double Field.timesBits Field.product Field.squares Field.inverse Blocks.part Blocks.setPart Blocks.byteAt Blocks.listOf Blocks.table Blocks.zip Code.codeSizes Code.sum Code.coefficient Code.row Code.symbol Code.redundant Decode.has Decode.setOf Decode.membersFrom Decode.others Decode.scale Decode.recover Decode.recovered Decode.recoveredTable Decode.each Decode.invertible Sizes.sizesWithin Entries.sameId Entries.isIn Entries.isListed Entries.isRecentIn Entries.isOldIn Entries.lastRecentAfter Entries.aged Node.idWithin Node.entriesWithin Node.setWithin Node.nodeWithin Client.idsWithin Client.unlOrExp Client.clientWithin Stripe.elementAt Stripe.setAt Stripe.guard Stripe.everyOf Stripe.someOf Writing.swap Writing.addEnter Writing.addAfter Writing.addWrite Writing.add Failure.stop Failure.fail Rebuild.holding Rebuild.lockNode Rebuild.lockIn Rebuild.lock Rebuild.recentIds Rebuild.atPosition Rebuild.largest Rebuild.countInit Rebuild.largestEpoch Rebuild.pickNow Rebuild.pickIn Rebuild.pick Rebuild.writeIn Rebuild.write Rebuild.settleIn Rebuild.settle made play History.settles History.nodesAt History.finishes History.swapsAt History.lastSwap History.reportedAt History.failedSince History.gathered
+unfolding times step Field.double Field.timesBits Field.product Field.squares Field.inverse Blocks.part Blocks.setPart Blocks.byteAt Lists.listOf Blocks.table Blocks.zip Code.codeSizes Code.sum Code.coefficient Code.row Code.symbol Code.redundant Decode.has Decode.setOf Decode.membersFrom Decode.others Decode.scale Decode.recover Decode.recovered Decode.recoveredTable Decode.each Decode.invertible Sizes.sizesWithin Entries.sameId Entries.isIn Entries.isListed Entries.isRecentIn Entries.isOldIn Entries.lastRecentAfter Entries.aged Node.idWithin Node.entriesWithin Node.setWithin Node.nodeWithin Client.idsWithin Client.unlOrExp Client.clientWithin Lists.elementAt Lists.setAt Stripe.guard Lists.everyOf Lists.someOf Writing.swap Writing.addEnter Writing.addAfter Writing.addWrite Writing.add Failure.stop Failure.fail Rebuild.holding Rebuild.lockNode Rebuild.lockIn Rebuild.lock Rebuild.recentIds Rebuild.atPosition Rebuild.largest Rebuild.countInit Rebuild.largestEpoch Rebuild.pickNow Rebuild.pickIn Rebuild.pick Rebuild.writeIn Rebuild.write Rebuild.settleIn Rebuild.settle made play History.settles History.nodesAt History.finishes History.swapsAt History.lastSwap History.reportedAt History.failedSince History.gathered
 done-rebuilt = refl
 
 -- what a history has since the last finished rebuild, at positions 1 and 2
@@ -101,7 +102,7 @@ abbrev since : List Event → Since
 since past = record { failed = failedSince z past; swaps = swapsAt z 1 past; reported = reportedAt z 1 past; elsewhere = swapsAt z 2 past }
 
 written-since : since (pastOf written) ≡ record { failed = false; swaps = theWrite ∷ []; reported = theWrite ∷ []; elsewhere = [] }
-unfolding times step Field.double Field.timesBits Field.product Field.squares Field.inverse Blocks.part Blocks.setPart Blocks.byteAt Blocks.listOf Blocks.table Blocks.zip Code.codeSizes Code.sum Code.coefficient Code.row Code.symbol Code.redundant Decode.has Decode.setOf Decode.membersFrom Decode.others Decode.scale Decode.recover Decode.recovered Decode.recoveredTable Decode.each Decode.invertible Sizes.sizesWithin Entries.sameId Entries.isIn Entries.isListed Entries.isRecentIn Entries.isOldIn Entries.lastRecentAfter Entries.aged Node.idWithin Node.entriesWithin Node.setWithin Node.nodeWithin Client.idsWithin Client.unlOrExp Client.clientWithin Stripe.elementAt Stripe.setAt Stripe.guard Stripe.everyOf Stripe.someOf Writing.swap Writing.addEnter Writing.addAfter Writing.addWrite Writing.add Failure.stop Failure.fail Rebuild.holding Rebuild.lockNode Rebuild.lockIn Rebuild.lock Rebuild.recentIds Rebuild.atPosition Rebuild.largest Rebuild.countInit Rebuild.largestEpoch Rebuild.pickNow Rebuild.pickIn Rebuild.pick Rebuild.writeIn Rebuild.write Rebuild.settleIn Rebuild.settle made play History.settles History.nodesAt History.finishes History.swapsAt History.lastSwap History.reportedAt History.failedSince History.gathered
+unfolding times step Field.double Field.timesBits Field.product Field.squares Field.inverse Blocks.part Blocks.setPart Blocks.byteAt Lists.listOf Blocks.table Blocks.zip Code.codeSizes Code.sum Code.coefficient Code.row Code.symbol Code.redundant Decode.has Decode.setOf Decode.membersFrom Decode.others Decode.scale Decode.recover Decode.recovered Decode.recoveredTable Decode.each Decode.invertible Sizes.sizesWithin Entries.sameId Entries.isIn Entries.isListed Entries.isRecentIn Entries.isOldIn Entries.lastRecentAfter Entries.aged Node.idWithin Node.entriesWithin Node.setWithin Node.nodeWithin Client.idsWithin Client.unlOrExp Client.clientWithin Lists.elementAt Lists.setAt Stripe.guard Lists.everyOf Lists.someOf Writing.swap Writing.addEnter Writing.addAfter Writing.addWrite Writing.add Failure.stop Failure.fail Rebuild.holding Rebuild.lockNode Rebuild.lockIn Rebuild.lock Rebuild.recentIds Rebuild.atPosition Rebuild.largest Rebuild.countInit Rebuild.largestEpoch Rebuild.pickNow Rebuild.pickIn Rebuild.pick Rebuild.writeIn Rebuild.write Rebuild.settleIn Rebuild.settle made play History.settles History.nodesAt History.finishes History.swapsAt History.lastSwap History.reportedAt History.failedSince History.gathered
 written-since = refl
 
 pub none-failed : failedSince z (pastOf written) ≡ false

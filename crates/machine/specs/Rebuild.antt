@@ -20,8 +20,9 @@ use Rattle.records.specs.Node.{Node, epochLimit, isNorm, isRecons, isInit, isL0
 use Rattle.records.specs.Node.{givenBack, written, settled}
 use Rattle.records.specs.Client.{Rebuild, NoRebuild, Locking, Picking, Writing, Settling, Unlocking, hasRebuild, withRebuild}
 use Rattle.records.specs.Client.{lockedRebuild, nextRebuild, clientWithin}
-use Rattle.machine.specs.Stripe.{Accepted, Rebuilt, Refused, Outcome, answered, refused, guard, Whole, nodeAt, setAt, blocksFit, nodesFit}
-use Rattle.machine.specs.Stripe.{everyOf, someOf}
+use Rattle.machine.specs.Stripe.{Accepted, Rebuilt, Refused, Outcome, answered, refused, guard, Whole, nodeAt, blocksFit, nodesFit}
+use Rattle.basics.specs.Lists.{setAt}
+use Rattle.basics.specs.Lists.{everyOf, someOf}
 
 -- other node records, and the client's rebuild in another phase
 abbrev pub advanced : List Node → Rebuild → Whole → Whole

@@ -4,6 +4,7 @@ use mathlib.Core.List.{List, [], _∷_}
 use Prim.Native.Nat.{ℕ, zero, suc, _*_}
 use lib.Dec.{eqb}
 use lib.ListN.{length, getD, set, replicate}
+use Rattle.basics.specs.Lists.{elementAt, setAt, everyOf}
 use Rattle.records.specs.declared.Sizes.{Sizes}
 use Rattle.records.specs.declared.Refusal.{Refusal}
 use Rattle.records.specs.Refusals.{numberOf}
@@ -29,22 +30,12 @@ fresh z spare differences =
       differences = differences;
     }
 
--- element j of a list, j from 1; outside the list a default
-unfoldable pub elementAt : {A : Type 0} → A → List A → ℕ → A
-elementAt default list zero = default
-elementAt default list (suc j) = getD list j default
-
 -- a node that is not there counts as failed, a client as fresh
 abbrev pub nodeAt : List Node → ℕ → Node
 nodeAt nodes j = elementAt failedNode nodes j
 
 abbrev pub clientAt : List Client → ℕ → Client
 clientAt clients c = elementAt freshClient clients c
-
--- the list with another element j
-unfoldable pub setAt : {A : Type 0} → List A → ℕ → A → List A
-setAt list zero x = list
-setAt list (suc j) x = set list j x
 
 -- what a call is answered; the first lines are the accepted ones
 pub data Answer : Type 0 where
@@ -134,15 +125,6 @@ blocksFit z table = eqb (length table) (z .n * z .b)
 
 abbrev pub differencesFit : Sizes → List ℕ → Bool
 differencesFit z table = eqb (length table) (z .m * z .b)
-
--- p holds of each element; of some element
-unfoldable pub everyOf : {A : Type 0} → (A → Bool) → List A → Bool
-everyOf p [] = true
-everyOf p (x ∷ list) = p x && everyOf p list
-
-unfoldable pub someOf : {A : Type 0} → (A → Bool) → List A → Bool
-someOf p [] = false
-someOf p (x ∷ list) = p x || someOf p list
 
 abbrev pub nodesFit : Sizes → List Node → Bool
 nodesFit z nodes = eqb (length nodes) (z .n) && everyOf (nodeWithin z) nodes

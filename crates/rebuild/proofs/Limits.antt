@@ -5,7 +5,7 @@ use mathlib.Core.List.{List}
 use Prim.Native.Nat.{ℕ, _+_, _-_, _≤_}
 use native.Mathlib.Omega.{arith}
 use borrow.Author.Tests.{leb-true}
-use Rattle.gf256.proofs.Computed.{and-left, and-right}
+use Rattle.basics.proofs.Tests.{and-left, and-right}
 use Rattle.code.specs.Code.{codeSizes}
 use Rattle.code.proofs.Sizes.{sizes-of}
 use Rattle.machine.specs.Stripe.{Outcome, refused, guard, nodesFit}

@@ -9,9 +9,10 @@ use lib.Dec.{leb, ltb}
 use borrow.Author.Tests.{leb-true, ltb-true, ne-eqb}
 use types.Run.{OneOf, miss}
 use denote.Enum.Declared.{tagOf}
-use Rattle.gf256.proofs.Computed.{and-left, and-right}
+use Rattle.basics.proofs.Tests.{and-left, and-right}
 use Rattle.code.specs.declared.nodes.NodeSet.{NodeSet}
-use Rattle.machine.specs.Stripe.{Whole, Accepted, answered, refused, nodeAt, setAt}
+use Rattle.machine.specs.Stripe.{Whole, Accepted, answered, refused, nodeAt}
+use Rattle.basics.specs.Lists.{setAt}
 use Rattle.machine.specs.Rebuild.{advanced, holding, lockIn, tightenIn, writeIn, settleIn, unlockIn}
 use Rattle.records.specs.declared.Sizes.{Sizes}
 use Rattle.records.specs.declared.ClientRecord.{ClientRecord}

@@ -12,9 +12,10 @@ use borrow.Author.Tests.{not-true}
 use Rattle.code.specs.Decode.{has, size, lowest, invertible}
 use Rattle.code.proofs.Invertible.{invertible-chosen}
 use Rattle.code.proofs.NodeSets.{setOf-has, lowest-chosen}
-use Rattle.machine.specs.Stripe.{elementAt, nodeAt, someOf}
+use Rattle.basics.specs.Lists.{elementAt, someOf}
+use Rattle.machine.specs.Stripe.{nodeAt}
 use Rattle.machine.specs.Rebuild.{someRecons, resumed, largest, pickedSet, countInit, neededSize}
-use Rattle.machine.proofs.Base.{clash, and-both, or-one, cond-ind}
+use Rattle.basics.proofs.Tests.{clash, and-both, or-one, cond-ind}
 use Rattle.machine.proofs.Frame.{norm-live, recons-live}
 use Rattle.machine.proofs.Largest.{the-largest}
 use Rattle.records.specs.declared.Sizes.{Sizes}

@@ -7,11 +7,12 @@ use native.Mathlib.Omega.{arith}
 use lib.Dec.{eqb}
 use lib.ListN.{length, take, drop}
 use borrow.Author.Tests.{eqb-true, lt-ltb, le-ltb, le-leb, lt-leb}
-use Rattle.gf256.proofs.Computed.{and-right}
+use Rattle.basics.proofs.Tests.{and-right}
 use Rattle.code.specs.Decode.{size}
-use Rattle.machine.specs.Stripe.{Accepted, Outcome, answered, refused, guard, Whole, everyOf, someOf}
+use Rattle.machine.specs.Stripe.{Accepted, Outcome, answered, refused, guard, Whole}
+use Rattle.basics.specs.Lists.{everyOf, someOf}
 use Rattle.machine.specs.Rebuild.{advanced, holding, someRecons, pickedSet, neededSize, largestEpoch, picked, pickNow, pickIn, weakened, weakenIn}
-use Rattle.machine.proofs.Base.{and-both, or-none}
+use Rattle.basics.proofs.Tests.{and-both, or-none}
 use Rattle.records.specs.declared.Sizes.{Sizes}
 use Rattle.records.specs.declared.ClientRecord.{ClientRecord}
 use Rattle.records.specs.declared.Refusal.{Refusal}

@@ -3,7 +3,8 @@ use mathlib.Core.Path.{_≡_, refl, sym, ap, _∙_}
 use mathlib.Core.Bool.{Bool, true, false, cond, not}
 use mathlib.Core.List.{List, []}
 use Prim.Native.Nat.{ℕ}
-use Rattle.machine.specs.Stripe.{Outcome, Whole, answered, refused, guard, nodeAt, setAt}
+use Rattle.machine.specs.Stripe.{Outcome, Whole, answered, refused, guard, nodeAt}
+use Rattle.basics.specs.Lists.{setAt}
 use Rattle.machine.specs.Rebuild.{outOfLimits}
 use Rattle.machine.proofs.View.{set-same}
 use Rattle.records.specs.declared.Sizes.{Sizes}

@@ -5,10 +5,10 @@ use mathlib.Core.List.{List}
 use Prim.Native.Nat.{ℕ, _*_}
 use lib.ListN.{length}
 use borrow.Author.Tests.{eqb-true, not-false}
-use Rattle.gf256.proofs.Computed.{and-left, and-right}
+use Rattle.basics.proofs.Tests.{and-left, and-right}
 use Rattle.machine.specs.Stripe.{Outcome, Whole, refused, guard, blocksFit}
 use Rattle.machine.specs.Rebuild.{outOfLimits}
-use Rattle.machine.proofs.Base.{or-none}
+use Rattle.basics.proofs.Tests.{or-none}
 use Rattle.records.specs.declared.Sizes.{Sizes}
 use Rattle.records.specs.declared.ClientRecord.{ClientRecord}
 use Rattle.records.specs.declared.NodeAnswer.{NodeAnswer}

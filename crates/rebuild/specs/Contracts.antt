@@ -5,7 +5,8 @@ use mathlib.Core.List.{List, []}
 use mathlib.Core.Path.{_≡_}
 use Prim.Native.Nat.{ℕ}
 use Rattle.machine.specs.Stripe as Stripe
-use Rattle.machine.specs.Stripe.{Outcome, Whole, answered, nodeAt, setAt}
+use Rattle.machine.specs.Stripe.{Outcome, Whole, answered, nodeAt}
+use Rattle.basics.specs.Lists.{setAt}
 use Rattle.machine.specs.Rebuild.{advanced, lost, holding, lockNode}
 use Rattle.records.specs.declared.Sizes.{Sizes}
 use Rattle.records.specs.declared.NodeRecord.{NodeRecord}

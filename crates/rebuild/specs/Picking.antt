@@ -5,7 +5,8 @@ use mathlib.Core.Path.{_≡_}
 use Prim.Native.Nat.{ℕ}
 use lib.Dec.{eqb, ltb}
 use Rattle.code.specs.Decode.{size, lowest, invertible}
-use Rattle.machine.specs.Stripe.{Accepted, Outcome, answered, guard, Whole, everyOf}
+use Rattle.machine.specs.Stripe.{Accepted, Outcome, answered, guard, Whole}
+use Rattle.basics.specs.Lists.{everyOf}
 use Rattle.machine.specs.Rebuild.{pickedSet, neededSize, picked}
 use Rattle.records.specs.declared.Sizes.{Sizes}
 use Rattle.records.specs.declared.ClientRecord.{ClientRecord}

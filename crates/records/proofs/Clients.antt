@@ -8,8 +8,8 @@ use native.Mathlib.Omega.{arith}
 use lib.Dec.{eqb, leb, ltb}
 use lib.ListN.{length}
 use borrow.Author.Tests.{eq-eqb, ne-eqb}
-use Rattle.blocks.specs.Blocks.{listOf}
-use Rattle.blocks.proofs.Tables.{length-listOf, listOf-cong}
+use Rattle.basics.specs.Lists.{listOf}
+use Rattle.basics.proofs.Lists.{length-listOf, listOf-cong}
 use Rattle.code.specs.declared.nodes.NodeSet.{NodeSet}
 use Rattle.code.specs.Decode.{has, including, excluding}
 use Rattle.code.specs.View.{nodeSetOf}

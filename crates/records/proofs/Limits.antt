@@ -8,7 +8,7 @@ use native.Mathlib.Omega.{arith}
 use lib.Dec.{leb}
 use borrow.Author.Tests.{le-leb, leb-true, ltb-true}
 use lib.ListN.{length}
-use Rattle.gf256.proofs.Computed.{and-left, and-right}
+use Rattle.basics.proofs.Tests.{and-left, and-right}
 use Rattle.code.specs.Code.{codeSizes}
 use Rattle.code.proofs.Sizes.{sizes-of}
 use Rattle.records.specs.declared.Sizes.{Sizes}

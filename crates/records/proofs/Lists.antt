@@ -10,8 +10,8 @@ use native.Mathlib.Omega.{arith}
 use lib.Dec.{leb}
 use lib.ListN.{length, getD, set, length-append, length-map, length-set}
 use lib.Seq.{getD-set-same, getD-set-other}
-use Rattle.blocks.specs.Blocks.{listOf}
-use Rattle.blocks.proofs.Tables.{length-listOf, listOf-cong}
+use Rattle.basics.specs.Lists.{listOf}
+use Rattle.basics.proofs.Lists.{length-listOf, listOf-cong}
 use Rattle.records.specs.declared.Sizes.{Sizes}
 use Rattle.records.specs.declared.WriteId.{WriteId}
 use Rattle.records.specs.declared.Entry as Declared

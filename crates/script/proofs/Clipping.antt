@@ -13,7 +13,8 @@ use Rattle.records.specs.declared.Refusal.the-variants.{OutOfLimits, OutOfRange
 use Rattle.records.specs.Node.{failedNode, nodeWithin}
 use Rattle.records.specs.Client.{Client, freshClient, clientWithin}
 use Rattle.records.specs.Sizes.{sizesWithin, isNode, isPosition, isRedundant, isClient}
-use Rattle.machine.specs.Stripe.{Stripe, Outcome, refused, guard, Local, Whole, elementAt, nodeAt, clientAt, atNode, onNode, whole, onWhole, blocksFit, nodesFit}
+use Rattle.machine.specs.Stripe.{Stripe, Outcome, refused, guard, Local, Whole, nodeAt, clientAt, atNode, onNode, whole, onWhole, blocksFit, nodesFit}
+use Rattle.basics.specs.Lists.{elementAt}
 use Rattle.machine.specs.Calls.{Call, Read, Pick, Swap, Fail, At, By, step}
 use Rattle.records.specs.declared.NodeCall.{NodeCall}
 use Rattle.records.specs.declared.NodeCall.the-variants.{Add, Check}
@@ -22,7 +23,7 @@ use Rattle.records.specs.declared.ClientCall.the-variants.{Drop, Sweep, Stop, L
 use Rattle.machine.specs.Writing as Writing
 use Rattle.machine.specs.Failure as Failure
 use Rattle.machine.specs.Rebuild as Rebuild
-use Rattle.machine.proofs.Elements.{element-past}
+use Rattle.basics.proofs.Lists.{element-past}
 use Rattle.machine.proofs.View.{refused-at, refused-on}
 use Rattle.script.specs.Reading.{clipNumber, clipValue, clip}
 

@@ -10,7 +10,7 @@ use native.Mathlib.Numerals.{add-one}
 use lib.ListN.{length, take, set, length-set}
 use lib.Seq.{take-nil, take-append-le, take-suc-set}
 use borrow.Author.Tests.{eqb-true, leb-true}
-use Rattle.machine.proofs.Base.{and-both}
+use Rattle.basics.proofs.Tests.{and-both}
 use Rattle.machine.specs.Calls.{Call}
 use Rattle.script.specs.Lines.{isDigit, digitsFrom, numeral, both, bytesOf, withOne, withTwo, withValue, withThree, callOf}
 use Rattle.script.specs.Reading.{clipNumber, clipValue, clip, clipped, kept, Stored, clippedFrom, numberFrom, valueFrom, last, afterFirst, afterSecond, withTarget}

@@ -10,7 +10,7 @@ use lib.Dec.{leb, ltb, lit<, lit≤}
 use lib.Pow.{pow-add}
 use lib.ListN.{length, length-append}
 use borrow.Author.Tests.{lt-ltb, le-ltb, leb-true, leb-false}
-use Rattle.machine.proofs.Base.{bool-cases, cond-ind}
+use Rattle.basics.proofs.Tests.{bool-cases, cond-ind}
 use Rattle.io.specs.Digits.{digits, Fewest}
 use Rattle.script.specs.Lines.{decimalIn, decimal}
 

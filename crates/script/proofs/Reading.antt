@@ -5,7 +5,7 @@ use Prim.Native.Nat.{ℕ}
 use lib.Dec.{eqb}
 use lib.ListN.{length}
 use borrow.Author.Tests.{ne-eqb}
-use Rattle.machine.proofs.Base.{cond-ind}
+use Rattle.basics.proofs.Tests.{cond-ind}
 use Rattle.script.specs.Lines.{onto, parts, fields, call}
 use Rattle.script.specs.Reading.{clipped, callIn, goesOn, Holds, Takes, Follows, Ends}
 use Rattle.script.specs.declared.reader.Line.{Line}

@@ -12,14 +12,15 @@ use lib.Seq.{ext-getD, getD-set-same, getD-set-other}
 use borrow.Author.Tests.{eqb-true, leb-true, le-leb}
 use denote.Laws.{Is}
 use mir.Val.{Val}
-use Rattle.blocks.proofs.Tables.{length-listOf, getD-listOf}
+use Rattle.basics.proofs.Lists.{length-listOf, getD-listOf}
 use Rattle.calls.specs.declared.Answer.the-variants.{Refused}
 use Rattle.calls.proofs.Left.{left-map}
-use Rattle.gf256.proofs.Computed.{and-left, and-right}
+use Rattle.basics.proofs.Tests.{and-left, and-right}
 use Rattle.lent.specs.Ranges.{seenIn}
 use Rattle.machine.specs.Calls.{Pick, step}
 use Rattle.machine.specs.Rebuild as Rebuild
-use Rattle.machine.specs.Stripe.{Stripe, answered, guard, onWhole, putWhole, refused, setAt}
+use Rattle.machine.specs.Stripe.{Stripe, answered, guard, onWhole, putWhole, refused}
+use Rattle.basics.specs.Lists.{setAt}
 use Rattle.machine.proofs.View.{refused-on}
 use Rattle.rebuild.specs.declared.Picked.{Picked}
 use Rattle.rebuild.specs.Picking.{Picks, seenWhole}

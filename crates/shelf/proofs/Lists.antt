@@ -10,7 +10,7 @@ use lib.Dec.{eqb}
 use lib.ListN.{length, getD, set, length-map, List·getD-map, List·getD-eq-default}
 use lib.Seq.{getD-set-same, getD-set-other, set-getD, set-out}
 use borrow.Author.Tests.{eq-eqb, ne-eqb}
-use Rattle.machine.specs.Stripe.{elementAt, setAt}
+use Rattle.basics.specs.Lists.{elementAt, setAt}
 
 module _ {A : Type 0} where
   -- within a list it does not matter what would stand past its end

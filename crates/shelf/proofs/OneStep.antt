@@ -13,7 +13,8 @@ use Rattle.calls.specs.Answers.{Meets, answerOf, local}
 use Rattle.calls.specs.Calls.{caller, target}
 use Rattle.calls.proofs.Left.{left-map}
 use Rattle.machine.specs.Calls.{step}
-use Rattle.machine.specs.Stripe.{Local, Outcome, Stripe, answered, clientAt, guard, onNode, putNode, setAt}
+use Rattle.machine.specs.Stripe.{Local, Outcome, Stripe, answered, clientAt, guard, onNode, putNode}
+use Rattle.basics.specs.Lists.{setAt}
 use Rattle.machine.specs.Writing as Writing
 use Rattle.machine.proofs.View.{put-back}
 use Rattle.rebuild.specs.declared.Stepped.{Stepped}

@@ -12,7 +12,8 @@ use lib.ListN.{length, getD, take, length-map, List·getD-map}
 use lib.Seq.{ext-getD, take-length, take-suc}
 use borrow.Author.Tests.{leb-true, leb-false, le-leb, lt-ltb, le-ltb, eqb-true, eqb-false, eq-eqb, ne-eqb}
 use Rattle.lent.specs.Ranges.{seenIn, Changed}
-use Rattle.machine.specs.Stripe.{nodeAt, setAt}
+use Rattle.machine.specs.Stripe.{nodeAt}
+use Rattle.basics.specs.Lists.{setAt}
 use Rattle.machine.proofs.View.{setAt-length}
 use Rattle.records.specs.declared.ClientRecord.{ClientRecord}
 use Rattle.records.specs.declared.NodeRecord.{NodeRecord}

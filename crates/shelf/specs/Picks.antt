@@ -7,7 +7,7 @@ use lib.Dec.{leb}
 use lib.ListN.{length, set}
 use Rattle.calls.specs.Answers.{Meets}
 use Rattle.machine.specs.Calls.{Pick}
-use Rattle.machine.specs.Stripe.{setAt}
+use Rattle.basics.specs.Lists.{setAt}
 use Rattle.rebuild.specs.declared.Picked.{Picked}
 use Rattle.records.specs.declared.ClientRecord.{ClientRecord}
 use Rattle.records.specs.declared.NodeRecord.{NodeRecord}

@@ -7,7 +7,7 @@ use Rattle.calls.specs.declared.Answer.{Answer}
 use Rattle.calls.specs.declared.Answer.the-variants.{Refused}
 use Rattle.calls.specs.Answers.{Meets}
 use Rattle.calls.specs.Calls.{caller, looksAtAll, stepOf, target}
-use Rattle.machine.specs.Stripe.{setAt}
+use Rattle.basics.specs.Lists.{setAt}
 use Rattle.rebuild.specs.declared.Stepped.{Stepped}
 use Rattle.records.specs.declared.ClientRecord.{ClientRecord}
 use Rattle.records.specs.declared.NodeRecord.{NodeRecord}

@@ -4,7 +4,8 @@ use mathlib.Core.List.{List, map}
 use mathlib.Core.Path.{_≡_}
 use Prim.Native.Nat.{ℕ}
 use lib.ListN.{length}
-use Rattle.machine.specs.Stripe.{clientAt, nodeAt, setAt}
+use Rattle.machine.specs.Stripe.{clientAt, nodeAt}
+use Rattle.basics.specs.Lists.{setAt}
 use Rattle.records.specs.declared.ClientRecord.{ClientRecord}
 use Rattle.records.specs.declared.NodeRecord.{NodeRecord}
 use Rattle.records.specs.Client.{Client}

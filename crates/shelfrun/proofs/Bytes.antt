@@ -9,7 +9,7 @@ use native.Mathlib.Omega.{arith}
 use lib.ListN.{length, take, getD, replicate, length-take}
 use lib.Seq.{length-take-le, take-suc, take-append-add, take-append-le}
 use borrow.Author.Tests.{ne-eqb}
-use Rattle.blocks.proofs.Tables.{length-listOf}
+use Rattle.basics.proofs.Lists.{length-listOf}
 use Rattle.machine.specs.Stripe.{Stripe, Answer}
 use Rattle.machine.specs.Calls.{Call, Read, Pick, Swap, Fail, At, By}
 use Rattle.script.specs.Lines.{call}

@@ -1,5 +1,6 @@
 -- Document 01, "Due test and runner": "Input .. prints exactly". Assumes nothing.
 use mathlib.Core.Path.{_≡_, refl}
+use Rattle.basics.specs.Lists as Lists
 use Rattle.gf256.specs.Field as Field
 use Rattle.blocks.specs.Blocks as Blocks
 use Rattle.code.specs.Code as Code
@@ -16,5 +17,5 @@ use Rattle.script.specs.Lines as Lines
 use Rattle.shelfrun.specs.Shelfrun.{outputOf, left, shelfrun, exampleInput, exampleOutput}
 
 pub example : shelfrun exampleInput ≡ exampleOutput
-unfolding shelfrun outputOf left step Lines.parts Lines.digitsFrom Lines.numeral Lines.hexDigit Lines.bytesOf Lines.callOf Lines.lineOf Lines.hex Lines.decimalIn Field.double Field.timesBits Field.product Field.squares Field.inverse Blocks.part Blocks.setPart Blocks.byteAt Blocks.listOf Blocks.table Blocks.zip Code.codeSizes Code.coefficient Decode.has Decode.setOf Decode.each Calls.isIn Sizes.sizesWithin Entries.sameId Entries.isIn Entries.isListed Entries.isRecentIn Entries.isOldIn Entries.lastRecentAfter Entries.aged Node.idWithin Node.entriesWithin Node.setWithin Node.nodeWithin Client.idsWithin Client.unlOrExp Client.clientWithin Stripe.elementAt Stripe.setAt Stripe.guard Stripe.everyOf Stripe.someOf Writing.swap Writing.addEnter Writing.addAfter Writing.addWrite Writing.add Writing.read
+unfolding shelfrun outputOf left step Lines.parts Lines.digitsFrom Lines.numeral Lines.hexDigit Lines.bytesOf Lines.callOf Lines.lineOf Lines.hex Lines.decimalIn Field.double Field.timesBits Field.product Field.squares Field.inverse Blocks.part Blocks.setPart Blocks.byteAt Lists.listOf Blocks.table Blocks.zip Code.codeSizes Code.coefficient Decode.has Decode.setOf Decode.each Calls.isIn Sizes.sizesWithin Entries.sameId Entries.isIn Entries.isListed Entries.isRecentIn Entries.isOldIn Entries.lastRecentAfter Entries.aged Node.idWithin Node.entriesWithin Node.setWithin Node.nodeWithin Client.idsWithin Client.unlOrExp Client.clientWithin Lists.elementAt Lists.setAt Stripe.guard Lists.everyOf Lists.someOf Writing.swap Writing.addEnter Writing.addAfter Writing.addWrite Writing.add Writing.read
 example = refl

@@ -7,9 +7,9 @@ use native.Mathlib.Decide.{ℕ-discrete}
 use native.Mathlib.Omega.{arith}
 use lib.ListN.{length, getD, set, replicate, length-set, length-replicate, getD-replicate}
 use lib.Seq.{ext-getD, getD-set-same, getD-set-other, set-out}
-use Rattle.blocks.specs.Blocks.{listOf}
-use Rattle.blocks.proofs.Tables.{length-listOf, getD-listOf}
-use Rattle.machine.specs.Stripe.{elementAt, setAt}
+use Rattle.basics.specs.Lists.{listOf}
+use Rattle.basics.proofs.Lists.{length-listOf, getD-listOf}
+use Rattle.basics.specs.Lists.{elementAt, setAt}
 
 -- no element has the number 0, and none is set there or past the last
 pub element-none : {A : Type 0} (d : A) (l : List A) (j : ℕ) → j < 1 → elementAt d l j ≡ d

@@ -7,7 +7,8 @@ use native.Mathlib.Omega.{arith}
 use lib.Dec.{eqb}
 use lib.ListN.{length}
 use Rattle.machine.specs.Stripe as Machine
-use Rattle.machine.specs.Stripe.{Outcome, Local, answered, refused, guard, nodeAt, clientAt, setAt, atNode, putNode, onNode, putWhole}
+use Rattle.machine.specs.Stripe.{Outcome, Local, answered, refused, guard, nodeAt, clientAt, atNode, putNode, onNode, putWhole}
+use Rattle.basics.specs.Lists.{setAt}
 use Rattle.machine.specs.Writing as Writing
 use Rattle.machine.specs.Rebuild as Rebuild
 use Rattle.machine.specs.Failure as Failure

@@ -3,7 +3,8 @@ use mathlib.Core.Path.{_≡_, refl, sym, ap, _∙_}
 use mathlib.Core.Bool.{true}
 use mathlib.Core.List.{List, []}
 use Prim.Native.Nat.{ℕ}
-use Rattle.machine.specs.Stripe.{Stripe, Outcome, Local, Whole, answered, nodeAt, clientAt, setAt, putNode, onNode, putWhole, onWhole}
+use Rattle.machine.specs.Stripe.{Stripe, Outcome, Local, Whole, answered, nodeAt, clientAt, putNode, onNode, putWhole, onWhole}
+use Rattle.basics.specs.Lists.{setAt}
 use Rattle.machine.specs.Calls as Machine
 use Rattle.machine.proofs.Refusals.{refusals-same}
 use Rattle.records.specs.declared.Sizes.{Sizes}

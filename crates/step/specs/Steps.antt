@@ -4,7 +4,8 @@ use mathlib.Core.Bool.{true}
 use mathlib.Core.List.{List, []}
 use mathlib.Core.Path.{_≡_}
 use Prim.Native.Nat.{ℕ}
-use Rattle.machine.specs.Stripe.{Stripe, nodeAt, clientAt, setAt}
+use Rattle.machine.specs.Stripe.{Stripe, nodeAt, clientAt}
+use Rattle.basics.specs.Lists.{setAt}
 use Rattle.machine.specs.Calls as Machine
 use Rattle.records.specs.declared.Sizes.{Sizes}
 use Rattle.records.specs.declared.NodeRecord.{NodeRecord}

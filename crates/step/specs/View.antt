@@ -4,7 +4,7 @@ use mathlib.Core.List.{List, []}
 use mathlib.Core.Path.{_≡_}
 use Prim.Native.Nat.{ℕ, _*_}
 use lib.ListN.{getD, replicate}
-use Rattle.blocks.specs.Blocks.{listOf}
+use Rattle.basics.specs.Lists.{listOf}
 use Rattle.machine.specs.Stripe as Machine
 use Rattle.records.specs.declared.Sizes.{Sizes}
 use Rattle.records.specs.declared.ClientRecord.{ClientRecord}

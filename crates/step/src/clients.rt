@@ -2,7 +2,8 @@
 ghost use mathlib.Core.Path.{_≡_};
 ghost use Prim.Native.Nat.{ℕ, _≤_};
 ghost use lib.ListN.{replicate};
-ghost use Rattle.machine.specs.Stripe.{clientAt, setAt};
+ghost use Rattle.machine.specs.Stripe.{clientAt};
+ghost use Rattle.basics.specs.Lists.{setAt};
 ghost use Rattle.records.specs.Client.{freshClient};
 ghost use Rattle.records.specs.View.{clientOf};
 ghost use Rattle.step.specs.View.{clientsOf};

@@ -2,7 +2,8 @@
 ghost use mathlib.Core.Path.{_≡_};
 ghost use Prim.Native.Nat.{ℕ, _≤_};
 ghost use lib.ListN.{replicate};
-ghost use Rattle.machine.specs.Stripe.{nodeAt, setAt};
+ghost use Rattle.machine.specs.Stripe.{nodeAt};
+ghost use Rattle.basics.specs.Lists.{setAt};
 ghost use Rattle.records.specs.Node.{freshNode};
 ghost use Rattle.records.specs.View.{nodeOf};
 ghost use Rattle.stripe.specs.View.{nodesOf};

@@ -4,7 +4,7 @@ ghost use mathlib.Core.List.{List, []};
 ghost use mathlib.Core.Path.{_≡_};
 ghost use Prim.Native.Nat.{ℕ, _≤_};
 ghost use Rattle.calls.specs.Calls.{caller, looksAtAll};
-ghost use Rattle.machine.specs.Stripe.{setAt};
+ghost use Rattle.basics.specs.Lists.{setAt};
 ghost use Rattle.records.specs.Sizes.{sizesWithin};
 ghost use Rattle.records.specs.View.{clientOf, nodeOf};
 ghost use Rattle.stripe.specs.Seen.{Sees, applied};

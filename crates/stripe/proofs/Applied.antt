@@ -7,11 +7,12 @@ use native.Mathlib.Decide.{decLt}
 use native.Mathlib.Omega.{arith}
 use lib.ListN.{length, getD, length-map}
 use lib.Seq.{ext-getD}
-use Rattle.blocks.proofs.Tables.{length-listOf, getD-listOf}
+use Rattle.basics.proofs.Lists.{length-listOf, getD-listOf}
 use Rattle.code.specs.declared.nodes.NodeSet.{NodeSet}
 use Rattle.code.specs.Decode.{has}
 use Rattle.code.specs.View.{nodeSetOf}
-use Rattle.machine.proofs.Elements.{length-from, length-restored, restored-first, restored-rest}
+use Rattle.basics.proofs.Lists.{length-from}
+use Rattle.machine.proofs.Elements.{length-restored, restored-first, restored-rest}
 use Rattle.records.specs.declared.Lmode.the-variants.{Unl}
 use Rattle.records.specs.Node.{Node, failedNode, expiredFor, givenBack}
 use Rattle.records.specs.View.{oldLmode, oldLmodes}

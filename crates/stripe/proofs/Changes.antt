@@ -8,8 +8,8 @@ use native.Mathlib.Nat.{le-of-suc-le-suc}
 use native.Mathlib.Omega.{arith}
 use lib.ListN.{length, getD, take, drop, length-map}
 use lib.Seq.{ext-getD}
-use Rattle.blocks.specs.Blocks.{listOf}
-use Rattle.blocks.proofs.Tables.{length-listOf, getD-listOf}
+use Rattle.basics.specs.Lists.{listOf}
+use Rattle.basics.proofs.Lists.{length-listOf, getD-listOf}
 use Rattle.code.specs.declared.nodes.NodeSet.{NodeSet}
 use Rattle.code.specs.Decode.{has}
 use Rattle.code.specs.View.{nodeSetOf}

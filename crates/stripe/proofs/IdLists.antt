@@ -6,8 +6,8 @@ use Prim.Native.Nat.{ℕ, suc, _+_, _≤_, _<_}
 use native.Mathlib.Omega.{arith}
 use lib.Dec.{eqb}
 use lib.ListN.{length, getD}
-use Rattle.blocks.specs.Blocks.{listOf}
-use Rattle.blocks.proofs.Tables.{length-listOf}
+use Rattle.basics.specs.Lists.{listOf}
+use Rattle.basics.proofs.Lists.{length-listOf}
 use Rattle.machine.specs.Rebuild.{oldSomewhere, recentIds, atPosition}
 use Rattle.records.specs.declared.WriteId.{WriteId}
 use Rattle.records.specs.Entries.{sameId, isRecent, isIn}

@@ -11,10 +11,11 @@ use lib.Seq.{ext-getD, getD-set-same, getD-set-other}
 use denote.Laws.{Is}
 use denote.Struct.Declared.{row}
 use mir.Val.{Val}
-use Rattle.gf256.proofs.Computed.{and-left, and-right}
-use Rattle.blocks.specs.Blocks.{listOf}
-use Rattle.blocks.proofs.Tables.{length-listOf, getD-listOf}
-use Rattle.machine.specs.Stripe.{elementAt, nodeAt, setAt, everyOf, someOf}
+use Rattle.basics.proofs.Tests.{and-left, and-right}
+use Rattle.basics.specs.Lists.{listOf}
+use Rattle.basics.proofs.Lists.{length-listOf, getD-listOf}
+use Rattle.basics.specs.Lists.{elementAt, setAt, everyOf, someOf}
+use Rattle.machine.specs.Stripe.{nodeAt}
 use Rattle.records.specs.declared.NodeRecord.{NodeRecord}
 use Rattle.records.specs.declared.Sizes.{Sizes}
 use Rattle.machine.specs.Rebuild.{countInit, largestEpoch}

@@ -5,7 +5,7 @@ use mathlib.Core.List.{List, [], _∷_, _++_}
 use Prim.Native.Nat.{ℕ}
 use lib.ListN.{length}
 use borrow.Author.Tests.{eq-eqb}
-use Rattle.machine.specs.Stripe.{everyOf, someOf}
+use Rattle.basics.specs.Lists.{everyOf, someOf}
 use Rattle.machine.specs.Rebuild.{someRecons}
 use Rattle.records.specs.declared.Sizes.{Sizes}
 use Rattle.records.specs.Node.{Node, isRecons, heldBy, nodeWithin}

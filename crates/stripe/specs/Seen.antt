@@ -7,7 +7,8 @@ use lib.ListN.{take, drop}
 use Rattle.code.specs.declared.nodes.NodeSet.{NodeSet}
 use Rattle.code.specs.Decode.{has}
 use Rattle.code.specs.View.{nodeSetOf}
-use Rattle.machine.specs.Stripe.{everyOf, nodesFit}
+use Rattle.basics.specs.Lists.{everyOf}
+use Rattle.machine.specs.Stripe.{nodesFit}
 use Rattle.machine.specs.Rebuild.{someRecons, restored}
 use Rattle.records.specs.declared.Sizes.{Sizes}
 use Rattle.records.specs.Node.{Node, isRecons, heldBy, weakenedBy, expiredFor, givenBack, nodeWithin}

@@ -6,7 +6,8 @@ use Prim.Native.Nat.{ℕ, suc, _≤_, _<_}
 use lib.Dec.{leb, ltb}
 use lib.ListN.{getD}
 use Rattle.code.specs.Decode.{NodeSet, has, size}
-use Rattle.machine.specs.Stripe.{nodeAt, someOf}
+use Rattle.machine.specs.Stripe.{nodeAt}
+use Rattle.basics.specs.Lists.{someOf}
 use Rattle.machine.specs.Rebuild.{f, atPosition, sameIds, besides}
 use Rattle.records.specs.declared.Sizes.{Sizes}
 use Rattle.records.specs.declared.WriteId.{WriteId}

@@ -2,7 +2,7 @@
 use mathlib.Core.List.{List, []}
 use Prim.Native.Nat.{ℕ, suc, _≤_, _<_}
 use lib.ListN.{getD}
-use Rattle.blocks.specs.Blocks.{listOf}
+use Rattle.basics.specs.Lists.{listOf}
 use Rattle.records.specs.declared.NodeRecord.{NodeRecord}
 use Rattle.records.specs.declared.Opmode.the-variants.{Norm}
 use Rattle.records.specs.declared.Lmode.the-variants.{Unl}

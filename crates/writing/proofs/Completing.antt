@@ -6,7 +6,7 @@ use native.Mathlib.Numerals.{add-one}
 use native.Mathlib.Omega.{arith}
 use lib.Dec.{leb}
 use borrow.Author.Tests.{le-leb, lt-leb}
-use Rattle.gf256.proofs.Computed.{never-both}
+use Rattle.basics.proofs.Tests.{never-both}
 use Rattle.code.specs.Decode.{NodeSet, has, each}
 use Rattle.machine.proofs.Sets.{each-at}
 

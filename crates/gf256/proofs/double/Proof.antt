@@ -4,7 +4,7 @@ use Prim.Native.Nat.{_*_, _/_, _%_}
 use borrow.Author.Needs.{needs}
 use lib.Bits.{bitXor}
 use Rattle.gf256.specs.Field.{double}
-use Rattle.gf256.proofs.Computed.{every, same-below}
+use Rattle.basics.proofs.Computed.{every, same-below}
 use Rattle.gf256.proofs.double.Statement.{statement}
 use Rattle.gf256.proofs.double.Tie as tie
 

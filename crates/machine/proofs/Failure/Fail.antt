@@ -10,7 +10,8 @@ use Rattle.records.specs.declared.Opmode.{Opmode}
 use Rattle.records.specs.declared.Opmode.the-variants.{Init}
 use Rattle.records.specs.Node.{isInit, isNorm, isRecons}
 use Rattle.records.specs.Client.{Write, Rebuild, NoRebuild, Locking, Picking, Writing, Settling, Unlocking}
-use Rattle.machine.proofs.Base.{upd, upd-same, upd-other, upd-ind, each-place, clash}
+use Rattle.basics.proofs.Updates.{upd, upd-same, upd-other, upd-ind}
+use Rattle.basics.proofs.Tests.{each-place, clash}
 use Rattle.machine.proofs.EntryLaws.{listed-nil}
 use Rattle.machine.proofs.Columns.{Ops, Lock, Unl, Columns, setBlocks, setOps, setLocks, setEpochs, setRsets, setEntries}
 use Rattle.machine.proofs.Ledger.{Ledger, noteFail}

@@ -2,7 +2,7 @@
 use mathlib.Core.List.{[]}
 use mathlib.Core.Option.{none}
 use Prim.Native.Nat.{ℕ}
-use Rattle.machine.proofs.Base.{upd}
+use Rattle.basics.proofs.Updates.{upd}
 use Rattle.machine.proofs.Columns.{Ops, Columns, setHands, setFinished}
 use Rattle.machine.proofs.Ledger.{Ledger}
 use Rattle.machine.proofs.Invariant.{Good}

@@ -14,7 +14,8 @@ use Rattle.records.specs.declared.Lmode.the-variants as Lmode
 use Rattle.records.specs.Node.{isInit, isRecons}
 use Rattle.records.specs.Node as Node
 use Rattle.records.specs.Client.{Rebuild, NoRebuild, Locking, Picking, Unlocking}
-use Rattle.machine.proofs.Base.{upd, upd-ind, clash, is-false, and-both, cond-ind}
+use Rattle.basics.proofs.Updates.{upd, upd-ind}
+use Rattle.basics.proofs.Tests.{clash, is-false, and-both, cond-ind}
 use Rattle.machine.proofs.Columns.{Ops, Lock, Unl, Exp, L0, L1, isUnl, isExp, isL0, isLocked, heldBy, Columns, setLocks, setPhases}
 use Rattle.machine.proofs.Ledger.{Ledger}
 use Rattle.machine.proofs.Invariant.{Ghost, IsNode, wasExp, writes, LockingOk, UnlockingOk, PhaseOk, RebuildOk, Inv, Good}

@@ -14,7 +14,8 @@ use Rattle.records.specs.declared.Epoch.{Epoch}
 use Rattle.records.specs.Entries.{isRecentIn, isOldIn}
 use Rattle.records.specs.Node.{isInit, isNorm, isRecons}
 use Rattle.records.specs.Client.{Writing}
-use Rattle.machine.proofs.Base.{upd, upd-same, upd-ind, clash, is-false, bool-cases}
+use Rattle.basics.proofs.Updates.{upd, upd-same, upd-ind}
+use Rattle.basics.proofs.Tests.{clash, is-false, bool-cases}
 use Rattle.machine.proofs.EntryLaws.{recent-listed}
 use Rattle.machine.proofs.Columns.{Ops, L1, Columns, setSpare, setPhases}
 use Rattle.machine.proofs.Ledger.{Ledger, IsPos, noteCount}

@@ -16,7 +16,8 @@ use Rattle.records.specs.declared.Epoch.{Epoch}
 use Rattle.records.specs.Entries.{isListed}
 use Rattle.records.specs.Node.{isInit, isNorm, isRecons}
 use Rattle.records.specs.Client.{Rebuild, Settling, Unlocking}
-use Rattle.machine.proofs.Base.{upd, upd-same, upd-other, upd-ind, each-place, clash, bool-cases}
+use Rattle.basics.proofs.Updates.{upd, upd-same, upd-other, upd-ind}
+use Rattle.basics.proofs.Tests.{each-place, clash, bool-cases}
 use Rattle.machine.proofs.EntryLaws.{listed-nil}
 use Rattle.machine.proofs.Columns.{Ops, L1, heldBy, Columns, setOps, setEpochs, setRsets, setEntries, setPhases}
 use Rattle.machine.proofs.Ledger.{Ledger, IsPos, noteCount, noteFinish, noteSettle, zeroth, isLast, Rebuilt}

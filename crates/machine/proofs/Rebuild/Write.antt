@@ -13,7 +13,8 @@ use Rattle.records.specs.declared.Opmode.the-variants.{Recons}
 use Rattle.records.specs.declared.Epoch.{Epoch}
 use Rattle.records.specs.Node.{isInit, isNorm, isRecons}
 use Rattle.records.specs.Client.{Write, Rebuild, Writing, Settling}
-use Rattle.machine.proofs.Base.{upd, upd-same, upd-other, upd-ind, each-place, clash, cond-ind}
+use Rattle.basics.proofs.Updates.{upd, upd-same, upd-other, upd-ind}
+use Rattle.basics.proofs.Tests.{each-place, clash, cond-ind}
 use Rattle.machine.proofs.Columns.{Ops, L1, heldBy, Columns, setBlocks, setOps, setEpochs, setRsets, setPhases}
 use Rattle.machine.proofs.Ledger.{Ledger}
 use Rattle.machine.proofs.Invariant.{Ghost, Laws, code, IsNode, Spot, at, Between, NodeOk, PairOk, HandOk, writes, WritingOk, PhaseOk, WriterOk, RebuildOk, Inv, Good}

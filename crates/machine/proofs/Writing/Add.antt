@@ -14,7 +14,8 @@ use Rattle.records.specs.Entries.{Entry, sameId, isListed, isIn, enter}
 use Rattle.records.specs.Node.{isInit, isNorm}
 use Rattle.records.specs.Client.{Write}
 use Rattle.machine.specs.Writing.{withDone}
-use Rattle.machine.proofs.Base.{upd, upd-same, upd-other, upd-ind, each-place, clash, is-false, some-same, not-some, or-one}
+use Rattle.basics.proofs.Updates.{upd, upd-same, upd-other, upd-ind}
+use Rattle.basics.proofs.Tests.{each-place, clash, is-false, some-same, not-some, or-one}
 use Rattle.machine.proofs.EntryLaws.{same-id, in-snoc}
 use Rattle.machine.proofs.Columns.{Ops, isUnl, isL0, Columns, setBlocks, setEntries, setHands, setFinished}
 use Rattle.machine.proofs.Ledger.{Ledger, noteDone, upd2}

@@ -12,7 +12,8 @@ use Rattle.records.specs.Entries.{isRecentIn, previousRecent}
 use Rattle.records.specs.Node.{isNorm}
 use Rattle.records.specs.Client.{Write}
 use Rattle.machine.specs.Writing.{withDone, forgetting}
-use Rattle.machine.proofs.Base.{upd, upd-ind, each-place, clash, is-true, some-same, not-some}
+use Rattle.basics.proofs.Updates.{upd, upd-ind}
+use Rattle.basics.proofs.Tests.{each-place, clash, is-true, some-same, not-some}
 use Rattle.machine.proofs.EntryLaws.{recent-listed}
 use Rattle.machine.proofs.Columns.{Ops, Columns, setHands}
 use Rattle.machine.proofs.Ledger.{Ledger}

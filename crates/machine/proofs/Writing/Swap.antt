@@ -12,7 +12,8 @@ use Rattle.records.specs.declared.Previous.the-variants.{Id}
 use Rattle.records.specs.Entries.{isOldIn, isIn, lastRecent, enter}
 use Rattle.records.specs.Node.{isInit, isNorm}
 use Rattle.records.specs.Client.{Write}
-use Rattle.machine.proofs.Base.{upd, upd-same, upd-other, upd-ind, each-place, clash, is-false, some-same, or-left}
+use Rattle.basics.proofs.Updates.{upd, upd-same, upd-other, upd-ind}
+use Rattle.basics.proofs.Tests.{each-place, clash, is-false, some-same, or-left}
 use Rattle.machine.proofs.EntryLaws.{old-listed}
 use Rattle.machine.proofs.Columns.{Ops, isUnl, isL0, Columns, setBlocks, setEntries, setHands, setNexts, setDifferences}
 use Rattle.machine.proofs.Ledger.{Ledger, IsPos, noteSwap, upd2}

@@ -10,7 +10,8 @@ use Rattle.records.specs.declared.WriteId.{WriteId}
 use Rattle.records.specs.declared.Opmode.{Opmode}
 use Rattle.records.specs.declared.Previous.the-variants.{Id}
 use Rattle.records.specs.Entries.{Entry, isListed, isRecentIn, isOldIn, isIn, lastRecent, discard, markOld}
-use Rattle.machine.proofs.Base.{upd, upd-ind, clash, is-false, bool-cases}
+use Rattle.basics.proofs.Updates.{upd, upd-ind}
+use Rattle.basics.proofs.Tests.{clash, is-false, bool-cases}
 use Rattle.machine.proofs.EntryLaws.{in-nil, listed-mark, recent-mark, old-mark, last-mark, listed-discard, recent-discard, old-discard, last-discard}
 use Rattle.machine.proofs.Columns.{Ops, Columns, setEntries, setFinished}
 use Rattle.machine.proofs.Ledger.{Ledger}

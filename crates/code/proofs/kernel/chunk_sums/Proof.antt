@@ -4,7 +4,8 @@ use Prim.Native.Nat.{_≤_, _-_, _*_, suc}
 use native.Mathlib.Omega.{arith}
 use Rattle.blocks.proofs.Parts.{lent-length}
 use Rattle.blocks.proofs.Tabled.{Tabled, tabled-none, tabled-fits, tabled-turn, tabled-all}
-use Rattle.blocks.specs.Blocks.{setPart, listOf}
+use Rattle.blocks.specs.Blocks.{setPart}
+use Rattle.basics.specs.Lists.{listOf}
 use Rattle.code.specs.Kernel.{groupSum}
 use borrow.Author.Needs.{needs}
 use Rattle.code.proofs.kernel.chunk_sums.Statement.{statement}

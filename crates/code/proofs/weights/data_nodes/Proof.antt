@@ -3,7 +3,7 @@ use mathlib.Core.List.{List, [], _∷_}
 use mathlib.Core.Path.{refl}
 use Prim.Native.Nat.{ℕ, suc}
 use lib.ListN.{getD}
-use Rattle.gf256.proofs.Computed.{every, same-below}
+use Rattle.basics.proofs.Computed.{every, same-below}
 use Rattle.code.proofs.weights.data_nodes.Statement.{statement}
 use Rattle.code.proofs.weights.data_nodes.Tie as tie
 

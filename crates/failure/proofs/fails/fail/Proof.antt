@@ -2,7 +2,7 @@
 use mathlib.Core.Path.{refl}
 use borrow.Author.Needs.{needs}
 use borrow.Author.Tests.{eqb-true}
-use Rattle.gf256.proofs.Computed.{and-left, and-right}
+use Rattle.basics.proofs.Tests.{and-left, and-right}
 use Rattle.records.specs.Sizes.{sizesWithin}
 use Rattle.machine.specs.Stripe.{blocksFit}
 use Rattle.machine.specs.Failure as Failure

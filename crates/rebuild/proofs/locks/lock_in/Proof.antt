@@ -1,7 +1,7 @@
 -- By the phase. Assumes nothing.
 use borrow.Author.Needs.{needs}
-use Rattle.blocks.specs.Blocks.{listOf}
-use Rattle.blocks.proofs.Tables.{length-listOf}
+use Rattle.basics.specs.Lists.{listOf}
+use Rattle.basics.proofs.Lists.{length-listOf}
 use Rattle.machine.specs.Rebuild.{lockIn}
 use Rattle.records.proofs.Limits.{nodes-few}
 use Rattle.rebuild.proofs.Limits.{sizes-known}

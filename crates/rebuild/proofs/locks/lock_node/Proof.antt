@@ -5,7 +5,7 @@ use Prim.Native.Nat.{_+_}
 use native.Mathlib.Omega.{arith}
 use lib.ListN.{length}
 use borrow.Author.Needs.{needs}
-use Rattle.blocks.proofs.Tables.{length-listOf}
+use Rattle.basics.proofs.Lists.{length-listOf}
 use Rattle.machine.specs.Stripe.{nodeAt}
 use Rattle.machine.specs.Rebuild.{lockNode}
 use Rattle.records.specs.declared.NodeAnswer.the-variants.{Accepted, Refused}

@@ -3,7 +3,7 @@ use mathlib.Core.Path.{_≡_, refl, sym, _∙_}
 use mathlib.Core.Bool.{true, false}
 use native.Mathlib.Omega.{arith}
 use borrow.Author.Needs.{needs}
-use Rattle.machine.specs.Stripe.{everyOf}
+use Rattle.basics.specs.Lists.{everyOf}
 use Rattle.machine.specs.Rebuild.{someRecons}
 use Rattle.records.specs.Node.{heldBy}
 use Rattle.records.specs.View.{clientOf}

@@ -7,12 +7,13 @@ use lib.Dec.{eqb, leb}
 use lib.ListN.{length}
 use borrow.Author.Needs.{needs}
 use borrow.Author.Tests.{eqb-true, not-true, not-false}
-use Rattle.gf256.proofs.Computed.{and-left}
+use Rattle.basics.proofs.Tests.{and-left}
 use Rattle.machine.specs.Stripe as Stripe
-use Rattle.machine.specs.Stripe.{nodeAt, everyOf}
+use Rattle.machine.specs.Stripe.{nodeAt}
+use Rattle.basics.specs.Lists.{everyOf}
 use Rattle.machine.specs.Rebuild.{settleIn, holding}
-use Rattle.machine.proofs.Base.{clash}
-use Rattle.machine.proofs.Elements.{every-at}
+use Rattle.basics.proofs.Tests.{clash}
+use Rattle.basics.proofs.Lists.{every-at}
 use Rattle.records.specs.declared.Sizes.{Sizes}
 use Rattle.records.specs.Node.{Node, failedNode, heldBy, settled}
 use Rattle.records.specs.View.{nodeOf}

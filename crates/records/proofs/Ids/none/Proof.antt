@@ -1,7 +1,7 @@
 -- A count of 0. Assumes nothing.
 use mathlib.Core.Path.{refl}
 use borrow.Author.Needs.{needs}
-use Rattle.blocks.specs.Blocks.{listOf}
+use Rattle.basics.specs.Lists.{listOf}
 use Rattle.records.proofs.Ids.none.Statement.{statement}
 use Rattle.records.proofs.Ids.none.Tie as tie
 

@@ -2,7 +2,7 @@
 use native.Mathlib.Omega.{arith}
 use lib.ListN.{length}
 use Prim.Native.Nat.{_<_}
-use Rattle.blocks.specs.Blocks.{listOf}
+use Rattle.basics.specs.Lists.{listOf}
 use Rattle.records.specs.View.{oldLmodes}
 use Rattle.records.proofs.Clients.{lmodes-count}
 use borrow.Author.Needs.{needs}

@@ -1,7 +1,8 @@
 -- The node and the client taken out, the call made, and put back if it changed anything. Assumes nothing.
 use mathlib.Core.Path.{sym, ap, _∙_}
 use borrow.Author.Needs.{needs}
-use Rattle.machine.specs.Stripe.{nodeAt, clientAt, setAt}
+use Rattle.machine.specs.Stripe.{nodeAt, clientAt}
+use Rattle.basics.specs.Lists.{setAt}
 use Rattle.records.proofs.Limits.{nodes-few}
 use Rattle.limits.proofs.Limits.{clients-few}
 use Rattle.records.specs.View.{nodeOf}

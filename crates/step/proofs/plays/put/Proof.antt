@@ -1,7 +1,7 @@
 -- The node, what becomes of the others, and the client.  Assumes nothing.
 use mathlib.Core.Path.{ap, _∙_}
 use borrow.Author.Needs.{needs}
-use Rattle.machine.specs.Stripe.{setAt}
+use Rattle.basics.specs.Lists.{setAt}
 use Rattle.records.specs.View.{clientOf}
 use Rattle.stripe.specs.Seen.{applied}
 use Rattle.step.specs.View.{clientsOf}

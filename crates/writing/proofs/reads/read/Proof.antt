@@ -2,7 +2,7 @@
 use mathlib.Core.Path.{refl}
 use mathlib.Core.Bool.{_&&_}
 use borrow.Author.Needs.{needs}
-use Rattle.gf256.proofs.Computed.{and-left, and-right}
+use Rattle.basics.proofs.Tests.{and-left, and-right}
 use Rattle.records.specs.Node.{nodeWithin}
 use Rattle.records.specs.Sizes.{sizesWithin}
 use Rattle.records.specs.View.{nodeOf}

@@ -1,6 +1,6 @@
 -- `code::nodes::NodeSet::none` meets its contract. Assumes nothing.
 use mathlib.Core.Path.{refl}
-use Rattle.blocks.specs.Blocks.{listOf}
+use Rattle.basics.specs.Lists.{listOf}
 use Rattle.code.specs.Decode.{setOf}
 use Rattle.code.specs.View.{nodeSetOf}
 use Rattle.code.proofs.nodes.NodeSet.none.Statement.{statement}

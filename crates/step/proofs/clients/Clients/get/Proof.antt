@@ -5,7 +5,7 @@ use borrow.Author.Needs.{needs}
 use Rattle.records.specs.Client.{freshClient}
 use Rattle.records.specs.View.{clientOf}
 use Rattle.step.specs.View.{blankClient, clientsOf}
-use Rattle.machine.proofs.Elements.{element-past}
+use Rattle.basics.proofs.Lists.{element-past}
 use Rattle.step.proofs.Items.{element-none, seen-count, seen-at}
 use Rattle.step.proofs.clients.Clients.get.Statement.{statement}
 use Rattle.step.proofs.clients.Clients.get.Tie as tie

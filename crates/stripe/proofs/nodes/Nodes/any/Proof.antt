@@ -2,7 +2,7 @@
 use Prim.Native.Nat.{_-_}
 use native.Mathlib.Omega.{arith}
 use borrow.Author.Needs.{needs}
-use Rattle.machine.specs.Stripe.{someOf}
+use Rattle.basics.specs.Lists.{someOf}
 use Rattle.records.specs.View.{nodeOf}
 use Rattle.records.proofs.Lists.{Searched, search-start, search-on, search-hit, search-end}
 use Rattle.stripe.specs.Nodes.{passes}

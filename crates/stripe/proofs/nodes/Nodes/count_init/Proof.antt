@@ -3,7 +3,7 @@ use mathlib.Core.Path.{refl}
 use Prim.Native.Nat.{_-_}
 use native.Mathlib.Omega.{arith}
 use borrow.Author.Needs.{needs}
-use Rattle.blocks.specs.Blocks.{listOf}
+use Rattle.basics.specs.Lists.{listOf}
 use Rattle.machine.specs.Rebuild.{countInit}
 use Rattle.stripe.specs.View.{nodesOf}
 use Rattle.stripe.proofs.Loops.{Reached, reach-start, reach-on, reach-end}

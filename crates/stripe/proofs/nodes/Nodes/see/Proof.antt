@@ -3,8 +3,8 @@ use mathlib.Core.Path.{sym, ap, _∙_}
 use Prim.Native.Nat.{ℕ, _-_, _≤_}
 use native.Mathlib.Omega.{arith}
 use borrow.Author.Needs.{needs}
-use Rattle.blocks.specs.Blocks.{listOf}
-use Rattle.machine.proofs.Base.{clash}
+use Rattle.basics.specs.Lists.{listOf}
+use Rattle.basics.proofs.Tests.{clash}
 use borrow.Author.Tests.{not-true, not-false}
 use Rattle.records.specs.Node.{Node}
 use Rattle.records.specs.View.{nodeOf}

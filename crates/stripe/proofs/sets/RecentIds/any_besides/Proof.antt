@@ -5,7 +5,7 @@ use Prim.Native.Nat.{_-_}
 use native.Mathlib.Omega.{arith}
 use lib.ListN.{getD}
 use borrow.Author.Needs.{needs}
-use Rattle.machine.specs.Stripe.{someOf}
+use Rattle.basics.specs.Lists.{someOf}
 use Rattle.records.specs.Entries.{isIn}
 use Rattle.records.specs.View.{blankId}
 use Rattle.records.proofs.Lists.{Searched, search-start, search-on, search-hit, search-end}

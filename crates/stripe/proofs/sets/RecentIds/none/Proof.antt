@@ -1,6 +1,6 @@
 -- A count of 0. Assumes nothing.
 use mathlib.Core.Path.{refl}
-use Rattle.blocks.specs.Blocks.{listOf}
+use Rattle.basics.specs.Lists.{listOf}
 use Rattle.stripe.proofs.sets.RecentIds.none.Statement.{statement}
 use Rattle.stripe.proofs.sets.RecentIds.none.Tie as tie
 

@@ -1,4 +1,4 @@
--- Tests, and functions with one place changed. Assumes nothing.
+-- What is used of tests, and of what is chosen by one. Assumes nothing.
 use mathlib.Core.Path.{_≡_, refl, sym, ap, subst}
 use mathlib.Core.Logic.{_≢_, _⊎_, inl, inr}
 use mathlib.Core.Bool.{Bool, true, false, cond, _&&_, _||_, not}
@@ -30,6 +30,17 @@ some-same e = cc
 
 pub not-some : {A C : Type 0} {a : A} → none ≡ some a → C
 not-some e = let z : _≡_ {A = ℕ} 0 1 = cc in absurd (omega arith)
+
+pub never-both : (a : Bool) → a ≡ true → a ≡ false → ⊥
+never-both a t f = let z : _≡_ {A = ℕ} 0 1 = cc in omega arith
+
+pub and-left : (a b : Bool) → (a && b) ≡ true → a ≡ true
+and-left true b e = refl
+and-left false b e = e
+
+pub and-right : (a b : Bool) → (a && b) ≡ true → b ≡ true
+and-right true b e = e
+and-right false b e = cc
 
 pub and-both : (a b : Bool) → (a && b) ≡ true → (a ≡ true) × (b ≡ true)
 and-both true b e = (refl, e)
@@ -73,26 +84,7 @@ each-place P i p q j = go (same-or i j)
     go (inl e) = subst P e p
     go (inr d) = q j d
 
-module _ {A : Type 0} where
-  unfoldable pub upd : (ℕ → A) → ℕ → A → ℕ → A
-  upd f i a j = cond (eqb i j) a (f j)
-
-  pub upd-same : (f : ℕ → A) (i : ℕ) (a : A) → upd f i a i ≡ a
-  unfolding upd
-  upd-same f i a = ap (λ t. cond t a (f i)) (eq-eqb i i refl)
-
-  pub upd-other : (f : ℕ → A) (i : ℕ) (a : A) (j : ℕ) → i ≢ j → upd f i a j ≡ f j
-  unfolding upd
-  upd-other f i a j h = go (eqb i j) refl
-    where
-      go : (t : Bool) → eqb i j ≡ t → cond (eqb i j) a (f j) ≡ f j
-      go true e = absurd (h (eqb-true i j e))
-      go false e = ap (λ t. cond t a (f j)) e
-
-  -- one place changed: what holds of the new value there and of the old ones elsewhere holds everywhere
-  pub upd-ind : (P : ℕ → A → Type 0) (f : ℕ → A) (i : ℕ) (a : A) → P i a → ((j : ℕ) → i ≢ j → P j (f j)) → (j : ℕ) → P j (upd f i a j)
-  upd-ind P f i a p q = each-place (λ j. P j (upd f i a j)) i (subst (P i) (sym (upd-same f i a)) p) (λ j d. subst (P j) (sym (upd-other f i a j d)) (q j d))
-
-  pub cond-ind : (P : A → Type 0) (b : Bool) (x y : A) → (b ≡ true → P x) → (b ≡ false → P y) → P (cond b x y)
-  cond-ind P true x y p q = p refl
-  cond-ind P false x y p q = q refl
+-- what holds of both, each where it is chosen, holds of the one chosen
+pub cond-ind : {A : Type 0} (P : A → Type 0) (b : Bool) (x y : A) → (b ≡ true → P x) → (b ≡ false → P y) → P (cond b x y)
+cond-ind P true x y p q = p refl
+cond-ind P false x y p q = q refl
