@@ -11,7 +11,7 @@ use Rattle.records.specs.declared.Refusal.{Refusal}
 use Rattle.records.specs.Sizes.{sizesWithin}
 use Rattle.records.specs.Node.{Node, failedNode, expiredFor}
 use Rattle.records.specs.Client.{Client, freshClient, stopped}
-use Rattle.machine.specs.Stripe.{Stripe, Accepted, Outcome, Local, answered, guard, clientAt, atNode, putNode, whole, blocksFit}
+use Rattle.machine.specs.Stripe.{Stripe, replacing, Accepted, Outcome, Local, answered, guard, clientAt, atNode, putNode, whole, blocksFit}
 use Rattle.basics.specs.Lists.{setAt}
 use Rattle.machine.specs.Calls.{Call, step}
 use Rattle.machine.specs.Calls as Calls
@@ -60,7 +60,7 @@ module _ (z : Sizes) (L : Laws (ops z)) (h : Ledger Block) (s : Stripe) (g : Goo
         value-sized = record { many = len; bytes = bytes }
 
         tables : Stripe
-        tables = record { nodes = s .nodes; clients = s .clients; blocks = fallen .blocks; spare = s .spare; differences = s .differences }
+        tables = replacing (s .nodes) (s .clients) (fallen .blocks) (s .spare) (s .differences) s
 
         seen : columns z (putNode j 0 fallen s) ≡ failed (ops z) C j (view (z .b) value)
         seen =

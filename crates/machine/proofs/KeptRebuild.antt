@@ -25,7 +25,7 @@ use Rattle.records.specs.Node.{Node, failedNode, withLmode, expiredFor, lockedB
 use Rattle.records.specs.Node as Node
 use Rattle.records.specs.Client as Records
 use Rattle.records.specs.Client.{Rebuild, NoRebuild, Locking, Picking, Writing, Settling, Unlocking, hasRebuild, withRebuild, unlOrExp, rebuildWithin, clientWithin}
-use Rattle.machine.specs.Stripe.{Stripe, Answer, Accepted, Rebuilt, Refused, number, Outcome, Whole, answered, refused, guard, nodeAt, clientAt, whole, nodesFit}
+use Rattle.machine.specs.Stripe.{Stripe, replacing, Answer, Accepted, Rebuilt, Refused, number, Outcome, Whole, answered, refused, guard, nodeAt, clientAt, whole, nodesFit}
 use Rattle.basics.specs.Lists.{setAt, everyOf}
 use Rattle.machine.specs.Calls.{Call, step}
 use Rattle.machine.specs.Calls as Calls
@@ -107,7 +107,7 @@ module _ (z : Sizes) (L : Laws (ops z)) (h : Ledger Block) (s : Stripe) (g : Goo
   ---- what a call leaves
   -- s with other nodes, blocks and spare
   abbrev with : List Node → List ℕ → List ℕ → Stripe
-  with nodes' blocks' spare' = record { nodes = nodes'; clients = s .clients; blocks = blocks'; spare = spare'; differences = s .differences }
+  with nodes' blocks' spare' = replacing nodes' (s .clients) blocks' spare' (s .differences) s
 
   pub record Shapes (nodes' : List Node) (blocks' spare' : List ℕ) : Type 0 where
     nodes : length nodes' ≡ z .n

@@ -21,7 +21,7 @@ use Rattle.records.specs.Sizes.{sizesWithin, isClient, isPosition, isNode, isRe
 use Rattle.records.specs.Node.{Node, withEntries, failedNode, nodeWithin}
 use Rattle.records.specs.Node as Node
 use Rattle.records.specs.Client.{Client, Write, began, finishedWrite, withHand, sweptOn, clientWithin}
-use Rattle.machine.specs.Stripe.{Stripe, Answer, Accepted, CheckInit, CheckGc, NoChange, Outcome, answered, guard, Local, nodeAt, clientAt, atNode, putNode, blocksFit, differencesFit}
+use Rattle.machine.specs.Stripe.{Stripe, replacing, Answer, Accepted, CheckInit, CheckGc, NoChange, Outcome, answered, guard, Local, nodeAt, clientAt, atNode, putNode, blocksFit, differencesFit}
 use Rattle.basics.specs.Lists.{setAt}
 use Rattle.machine.specs.Calls.{Call, step}
 use Rattle.machine.specs.Calls as Calls
@@ -120,7 +120,7 @@ module _ (z : Sizes) (L : Laws (ops z)) (h : Ledger Block) (s : Stripe) (g : Goo
 
   -- other tables
   abbrev withTables : List ℕ → List ℕ → Stripe
-  withTables blocks differences = record { nodes = s .nodes; clients = s .clients; blocks = blocks; spare = s .spare; differences = differences }
+  withTables blocks differences = replacing (s .nodes) (s .clients) blocks (s .spare) differences s
 
   -- other entries at node j, another record of the client, other tables
   abbrev left : ℕ → List Entry → Client → List ℕ → List ℕ → Local

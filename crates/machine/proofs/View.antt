@@ -18,7 +18,7 @@ use Rattle.records.specs.Node.{Node, failedNode, isHolder}
 use Rattle.records.specs.Node as Node
 use Rattle.records.specs.Client as Client
 use Rattle.records.specs.Client.{freshClient}
-use Rattle.machine.specs.Stripe.{Stripe, Outcome, answered, refused, Local, Whole, nodeAt, clientAt, atNode, putNode, onNode, whole, putWhole, onWhole}
+use Rattle.machine.specs.Stripe.{Stripe, replacing, Outcome, answered, refused, Local, Whole, nodeAt, clientAt, atNode, putNode, onNode, whole, putWhole, onWhole}
 use Rattle.basics.specs.Lists.{elementAt, setAt}
 use Rattle.basics.proofs.Updates.{upd, upd-same, upd-other}
 use Rattle.basics.proofs.Tests.{same-or, clash}
@@ -121,10 +121,10 @@ withClient C c x =
 
 -- other records, the tables as they are
 abbrev pub withNodes : Stripe → List Node → Stripe
-withNodes s l = record { nodes = l; clients = s .clients; blocks = s .blocks; spare = s .spare; differences = s .differences }
+withNodes s l = replacing l (s .clients) (s .blocks) (s .spare) (s .differences) s
 
 abbrev pub withClients : Stripe → List Client.Client → Stripe
-withClients s l = record { nodes = s .nodes; clients = l; blocks = s .blocks; spare = s .spare; differences = s .differences }
+withClients s l = replacing (s .nodes) l (s .blocks) (s .spare) (s .differences) s
 
 pub put-node : (z : Sizes) (s : Stripe) (j : ℕ) (x : Node) → 1 ≤ j → j ≤ length (s .nodes)
     → columns z (withNodes s (setAt (s .nodes) j x)) ≡ withNode (columns z s) j x
@@ -165,11 +165,12 @@ put-client z s c x a b =
 ---- what is lent, put back as it was
 pub put-back : (j c : ℕ) (s : Stripe) → putNode j c (atNode j c s) s ≡ s
 put-back j c s =
-    λ i. record { nodes = set-same (λ (x : Node). x) failedNode (s .nodes) j i; clients = set-same (λ (x : Client.Client). x) freshClient (s .clients) c i; blocks = s .blocks; spare = s .spare; differences = s .differences }
+    λ i. replacing (set-same (λ (x : Node). x) failedNode (s .nodes) j i) (set-same (λ (x : Client.Client). x) freshClient (s .clients) c i)
+    (s .blocks) (s .spare) (s .differences) s
 
 pub put-whole-back : (c : ℕ) (s : Stripe) → putWhole c (whole c s) s ≡ s
 put-whole-back c s =
-    λ i. record { nodes = s .nodes; clients = set-same (λ (x : Client.Client). x) freshClient (s .clients) c i; blocks = s .blocks; spare = s .spare; differences = s .differences }
+    λ i. replacing (s .nodes) (set-same (λ (x : Client.Client). x) freshClient (s .clients) c i) (s .blocks) (s .spare) (s .differences) s
 
 -- a call that is refused and leaves all unchanged
 module _ (s : Stripe) (why : Refusal) where

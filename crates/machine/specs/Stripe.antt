@@ -30,6 +30,11 @@ fresh z spare differences =
       differences = differences;
     }
 
+-- the stripe with these records and tables. What else a stripe has stays
+abbrev pub replacing : List Node → List Client → List ℕ → List ℕ → List ℕ → Stripe → Stripe
+replacing nodes clients blocks spare differences s =
+    record { nodes = nodes; clients = clients; blocks = blocks; spare = spare; differences = differences }
+
 -- a node that is not there counts as failed, a client as fresh
 abbrev pub nodeAt : List Node → ℕ → Node
 nodeAt nodes j = elementAt failedNode nodes j
@@ -97,14 +102,7 @@ abbrev pub atNode : ℕ → ℕ → Stripe → Local
 atNode j c s = record { node = nodeAt (s .nodes) j; client = clientAt (s .clients) c; blocks = s .blocks; differences = s .differences }
 
 abbrev pub putNode : ℕ → ℕ → Local → Stripe → Stripe
-putNode j c l s =
-    record {
-      nodes = setAt (s .nodes) j (l .node);
-      clients = setAt (s .clients) c (l .client);
-      blocks = l .blocks;
-      spare = s .spare;
-      differences = l .differences;
-    }
+putNode j c l s = replacing (setAt (s .nodes) j (l .node)) (setAt (s .clients) c (l .client)) (l .blocks) (s .spare) (l .differences) s
 
 abbrev pub onNode : ℕ → ℕ → (Local → Outcome Local) → Stripe → Outcome Stripe
 onNode j c call s = let o = call (atNode j c s) in answered (o .answer) (putNode j c (o .after) s)
@@ -113,8 +111,7 @@ abbrev pub whole : ℕ → Stripe → Whole
 whole c s = record { nodes = s .nodes; client = clientAt (s .clients) c; blocks = s .blocks; spare = s .spare }
 
 abbrev pub putWhole : ℕ → Whole → Stripe → Stripe
-putWhole c w s =
-    record { nodes = w .nodes; clients = setAt (s .clients) c (w .client); blocks = w .blocks; spare = w .spare; differences = s .differences }
+putWhole c w s = replacing (w .nodes) (setAt (s .clients) c (w .client)) (w .blocks) (w .spare) (s .differences) s
 
 abbrev pub onWhole : ℕ → (Whole → Outcome Whole) → Stripe → Outcome Stripe
 onWhole c call s = let o = call (whole c s) in answered (o .answer) (putWhole c (o .after) s)

@@ -7,7 +7,7 @@ use native.Mathlib.Omega.{arith}
 use lib.Dec.{eqb}
 use lib.ListN.{length}
 use Rattle.machine.specs.Stripe as Machine
-use Rattle.machine.specs.Stripe.{Outcome, Local, answered, refused, guard, nodeAt, clientAt, atNode, putNode, onNode, putWhole}
+use Rattle.machine.specs.Stripe.{replacing, Outcome, Local, answered, refused, guard, nodeAt, clientAt, atNode, putNode, onNode, putWhole}
 use Rattle.basics.specs.Lists.{setAt}
 use Rattle.machine.specs.Writing as Writing
 use Rattle.machine.specs.Rebuild as Rebuild
@@ -164,7 +164,7 @@ module _ (z : Sizes) (value shown : List ℕ) (x : Stripe) (blocks spare differe
 
     put-said : {o : Outcome Machine.Stripe} → answered (answerOf a []) t ≡ o → answered (answerOf a []) (storedOf z put) ≡ o
     put-said said =
-        (λ i. answered (answerOf a []) (record { nodes = en i; clients = ec i; blocks = t .blocks; spare = t .spare; differences = t .differences })) ∙ said
+        (λ i. answered (answerOf a []) (replacing (en i) (ec i) (t .blocks) (t .spare) (t .differences) t)) ∙ said
 
     pub steps-put : (call : StepCall) → answered (answerOf a []) t ≡ step z (stepOf call value) s
         → Plays z (Step call) value shown (stored x blocks spare differences) a shown put
@@ -177,7 +177,7 @@ module _ (z : Sizes) (value shown : List ℕ) (x : Stripe) (blocks spare differe
 -- what a pick by client c hands back, put into the stripe
 abbrev pub pickedStripe : ℕ → Picked → List ℕ → Machine.Stripe → Machine.Stripe
 pickedStripe c r spare s =
-    record { nodes = applied (r .change) (s .nodes); clients = setAt (s .clients) c (clientOf (r .client)); blocks = s .blocks; spare = spare; differences = s .differences }
+    replacing (applied (r .change) (s .nodes)) (setAt (s .clients) c (clientOf (r .client))) (s .blocks) spare (s .differences) s
 
 pub picks : (z : Sizes) (c : ℕ) (x : Stripe) (blocks spare differences spare′ : List ℕ) (client : ClientRecord) (r : Picked)
     → clientOf client ≡ clientAt (clientsOf (z .m) (x .clients)) c

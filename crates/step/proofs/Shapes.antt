@@ -3,7 +3,7 @@ use mathlib.Core.Path.{_≡_, refl, sym, ap, _∙_}
 use mathlib.Core.Bool.{true}
 use mathlib.Core.List.{List, []}
 use Prim.Native.Nat.{ℕ}
-use Rattle.machine.specs.Stripe.{Stripe, Outcome, Local, Whole, answered, nodeAt, clientAt, putNode, onNode, putWhole, onWhole}
+use Rattle.machine.specs.Stripe.{Stripe, replacing, Outcome, Local, Whole, answered, nodeAt, clientAt, putNode, onNode, putWhole, onWhole}
 use Rattle.basics.specs.Lists.{setAt}
 use Rattle.machine.specs.Calls as Machine
 use Rattle.machine.proofs.Refusals.{refusals-same}
@@ -79,7 +79,8 @@ module _ (z : Sizes) (call : StepCall) (seen : Seen) (node : NodeRecord) (client
       let s = stripeWith nodes clients blocks spare differences in
       let j = target z call (clientOf client) in
       meets s refl refl
-      (ap (λ change. answered (answerOf (r .answer) []) (record { nodes = applied change (setAt nodes j (nodeOf (r .node))); clients = setAt clients (caller call) (clientOf (r .client)); blocks = blocks′; spare = spare; differences = differences′ })) k
+      (ap (λ change. answered (answerOf (r .answer) []) (replacing (applied change (setAt nodes j (nodeOf (r .node)))) (setAt clients (caller call) (clientOf (r .client)))
+      blocks′ spare differences′ s)) k
       ∙ ap (λ o. answered (o .answer) (putNode j (caller call) (o .after) s)) (m .said)
       ∙ on-node f j (caller call) s (h .node-is) (h .client-is)
       ∙ ap (λ y. onNode (target z call y) (caller call) f s) (h .client-is)
@@ -121,7 +122,8 @@ module _ (z : Sizes) (call : StepCall) (seen : Seen) (node : NodeRecord) (client
       let s = stripeWith nodes clients blocks spare differences in
       let met = m nodes (record { sees = h .seen-is looks; record-is = h .node-is ∙ ap (nodeAt nodes) (at (clientOf client)) }) in
       meets z call seen node client value blocks spare differences r blocks′ differences s refl refl
-      (ap (λ j. answered (answerOf (r .answer) []) (record { nodes = applied (r .change) (setAt nodes j (nodeOf (r .node))); clients = setAt clients (caller call) (clientOf (r .client)); blocks = blocks′; spare = spare; differences = differences })) (at (clientOf client))
+      (ap (λ j. answered (answerOf (r .answer) []) (replacing (applied (r .change) (setAt nodes j (nodeOf (r .node)))) (setAt clients (caller call) (clientOf (r .client)))
+      blocks′ spare differences s)) (at (clientOf client))
       ∙ ap (λ o. answered (o .answer) (putWhole (caller call) (o .after) s)) (met .said)
       ∙ on-whole g (caller call) s (h .client-is)
       ∙ sym (is s))

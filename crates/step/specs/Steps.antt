@@ -4,7 +4,7 @@ use mathlib.Core.Bool.{true}
 use mathlib.Core.List.{List, []}
 use mathlib.Core.Path.{_≡_}
 use Prim.Native.Nat.{ℕ}
-use Rattle.machine.specs.Stripe.{Stripe, nodeAt, clientAt}
+use Rattle.machine.specs.Stripe.{Stripe, replacing, nodeAt, clientAt}
 use Rattle.basics.specs.Lists.{setAt}
 use Rattle.machine.specs.Calls as Machine
 use Rattle.records.specs.declared.Sizes.{Sizes}
@@ -30,13 +30,8 @@ pub record Handed (z : Sizes) (call : StepCall) (s : Stripe) (seen : Seen) (node
 -- the stripe with the records that a call by a client with the record x hands back, and the tables as it leaves them
 abbrev pub putBack : Sizes → StepCall → Client → Stepped → List ℕ → List ℕ → Stripe → Stripe
 putBack z call x r blocks differences s =
-    record {
-      nodes = applied (r .change) (setAt (s .nodes) (target z call x) (nodeOf (r .node)));
-      clients = setAt (s .clients) (caller call) (clientOf (r .client));
-      blocks = blocks;
-      spare = s .spare;
-      differences = differences;
-    }
+    replacing (applied (r .change) (setAt (s .nodes) (target z call x) (nodeOf (r .node)))) (setAt (s .clients) (caller call) (clientOf (r .client)))
+    blocks (s .spare) differences s
 
 abbrev pub stripeWith : List Node → List Client → List ℕ → List ℕ → List ℕ → Stripe
 stripeWith nodes clients blocks spare differences =
