@@ -2,15 +2,15 @@
 use crate::sizes;
 use calls::Answer;
 use calls::AtNode;
+use entries::Entries;
+use entries::Epoch;
+use entries::Previous;
+use entries::WriteId;
+use entries::WriteNumber;
 use records::ClientRecord;
-use records::Entries;
-use records::Epoch;
 use records::NodeRecord;
-use records::Previous;
 use records::Sizes;
 use records::Write;
-use records::WriteId;
-use records::WriteNumber;
 
 // What a call is made on: records, after the answer of the call before.
 fn fresh() -> AtNode {

@@ -6,9 +6,9 @@ use super::output::put;
 use super::output::put_number;
 use super::output::put_number_and;
 use super::output::put_text;
+use entries::Previous;
 use records::ClientRecord;
 use records::Hand;
-use records::Previous;
 use records::Write;
 
 fn put_previous(out: &mut [u8], at: usize, previous: Previous) -> usize {

@@ -5,10 +5,10 @@ use super::output::put_between;
 use super::output::put_number;
 use super::output::put_number_and;
 use code::NodeSet;
-use records::Entries;
-use records::Entry;
-use records::Ids;
-use records::WriteId;
+use entries::Entries;
+use entries::Entry;
+use entries::Ids;
+use entries::WriteId;
 
 fn least(a: usize, b: usize) -> usize
     ensures { λ r. ⌜ r ≤ b ⌝ }

@@ -7,15 +7,16 @@ use lib.Dec.{leb}
 use lib.ListN.{length}
 use borrow.Author.Tests.{leb-true, ltb-true}
 use Rattle.basics.proofs.Tests.{and-left, and-right}
+use Rattle.entries.specs.View.{idsOf}
+use Rattle.entries.proofs.Lists.{ids-count}
 use Rattle.records.specs.declared.Sizes.{Sizes}
 use Rattle.records.specs.declared.NodeRecord.{NodeRecord}
 use Rattle.records.specs.declared.ClientRecord.{ClientRecord}
 use Rattle.records.specs.Sizes.{sizesWithin}
 use Rattle.records.specs.Node.{nodeWithin}
 use Rattle.records.specs.Client.{clientWithin}
-use Rattle.records.specs.View.{idsOf, nodeOf, clientOf}
+use Rattle.records.specs.View.{nodeOf, clientOf}
 use Rattle.records.proofs.Limits.{nodes-few, client-tests, few-entries}
-use Rattle.records.proofs.Lists.{ids-count}
 
 -- what a call at one node may count on
 pub record Lent (z : Sizes) (node : NodeRecord) (client : ClientRecord) : Type 0 where

@@ -11,9 +11,9 @@ use lib.ListN.{length}
 use borrow.Author.Tests.{not-true}
 use Rattle.code.specs.Decode.{NodeSet, has}
 use Rattle.code.proofs.NodeSets.{setOf-has}
+use Rattle.entries.specs.declared.WriteId.{WriteId}
+use Rattle.entries.specs.Entries.{Entry, sameId, isRecent, isIn, isRecentIn, isOldIn}
 use Rattle.records.specs.declared.Sizes.{Sizes}
-use Rattle.records.specs.declared.WriteId.{WriteId}
-use Rattle.records.specs.Entries.{Entry, sameId, isRecent, isIn, isRecentIn, isOldIn}
 use Rattle.records.specs.Node.{Node, failedNode, isNorm, isRecons, isInit}
 use Rattle.machine.specs.Stripe.{Stripe}
 use Rattle.basics.specs.Lists.{someOf}

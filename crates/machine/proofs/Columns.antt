@@ -6,9 +6,9 @@ use mathlib.Core.Option.{Option}
 use Prim.Native.Nat.{ℕ}
 use lib.Dec.{eqb}
 use Rattle.code.specs.Decode.{NodeSet}
-use Rattle.records.specs.declared.WriteId.{WriteId}
+use Rattle.entries.specs.declared.WriteId.{WriteId}
+use Rattle.entries.specs.Entries.{Entry}
 use Rattle.records.specs.declared.Opmode.{Opmode}
-use Rattle.records.specs.Entries.{Entry}
 use Rattle.records.specs.Client.{Write, Rebuild}
 
 -- an lmode with its holder: there is a holder at L0 and L1 alone

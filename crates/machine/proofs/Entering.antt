@@ -7,9 +7,9 @@ use mathlib.Core.Option.{Option, some}
 use Prim.Native.Nat.{ℕ, suc, _≤_}
 use native.Mathlib.Nat.{le-trans}
 use native.Mathlib.Omega.{arith}
-use Rattle.records.specs.declared.WriteId.{WriteId}
-use Rattle.records.specs.declared.Previous.the-variants.{Id}
-use Rattle.records.specs.Entries.{Entry, sameId, isListed, isRecentIn, isOldIn, enter}
+use Rattle.entries.specs.declared.WriteId.{WriteId}
+use Rattle.entries.specs.declared.Previous.the-variants.{Id}
+use Rattle.entries.specs.Entries.{Entry, sameId, isListed, isRecentIn, isOldIn, enter}
 use Rattle.records.specs.Node.{isInit, isNorm, isRecons}
 use Rattle.records.specs.Client.{Write}
 use Rattle.basics.proofs.Updates.{upd, upd-same, upd-other}

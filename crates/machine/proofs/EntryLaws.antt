@@ -5,12 +5,12 @@ use mathlib.Core.Bool.{Bool, true, false, cond, _&&_, _||_, not, or-assoc}
 use mathlib.Core.List.{List, [], _∷_, _++_}
 use lib.Dec.{eqb}
 use borrow.Author.Tests.{not-true, eqb-true, eq-eqb}
-use Rattle.records.specs.declared.Mark.{Mark}
-use Rattle.records.specs.declared.Mark.the-variants.{Recent, Old}
-use Rattle.records.specs.declared.WriteId.{WriteId}
-use Rattle.records.specs.declared.Previous.{Previous}
-use Rattle.records.specs.declared.Previous.the-variants.{Nothing, Id}
-use Rattle.records.specs.Entries.{Entry, sameId, marked, isRecent, isListed, isRecentIn, isOldIn, isIn, lastRecent, lastRecentAfter, enter, aged, discard, markOld}
+use Rattle.entries.specs.declared.Mark.{Mark}
+use Rattle.entries.specs.declared.Mark.the-variants.{Recent, Old}
+use Rattle.entries.specs.declared.WriteId.{WriteId}
+use Rattle.entries.specs.declared.Previous.{Previous}
+use Rattle.entries.specs.declared.Previous.the-variants.{Nothing, Id}
+use Rattle.entries.specs.Entries.{Entry, sameId, marked, isRecent, isListed, isRecentIn, isOldIn, isIn, lastRecent, lastRecentAfter, enter, aged, discard, markOld}
 use Rattle.basics.proofs.Tests.{clash, and-both, or-one, or-false, or-left, or-right, bool-cases, cond-ind}
 
 pub same-id : (a b : WriteId) → sameId a b ≡ true → a ≡ b

@@ -8,12 +8,12 @@ use Prim.Native.Nat.{ℕ, zero, suc, _≤_, _<_}
 use lib.Dec.{leb}
 use lib.ListN.{length, getD}
 use Rattle.code.specs.Decode.{NodeSet, has, size}
-use Rattle.records.specs.declared.WriteId.{WriteId}
+use Rattle.entries.specs.declared.WriteId.{WriteId}
+use Rattle.entries.specs.declared.Previous.the-variants.{Id}
+use Rattle.entries.specs.Entries.{Entry, isListed, isRecentIn, isOldIn, isIn, lastRecent}
 use Rattle.records.specs.declared.Opmode.{Opmode}
-use Rattle.records.specs.declared.Previous.the-variants.{Id}
 use Rattle.records.specs.declared.Lmode.{Lmode}
 use Rattle.records.specs.declared.Lmode.the-variants as Lmode
-use Rattle.records.specs.Entries.{Entry, isListed, isRecentIn, isOldIn, isIn, lastRecent}
 use Rattle.records.specs.Node.{isInit, isNorm, isRecons}
 use Rattle.records.specs.Node as Node
 use Rattle.records.specs.Client.{Write, Rebuild, NoRebuild, Locking, Picking, Writing, Settling, Unlocking}

@@ -12,8 +12,8 @@ use borrow.Author.Tests.{leb-true, ltb-true, ltb-false, eqb-true, not-false}
 use Rattle.basics.proofs.Tests.{and-left, and-right}
 use Rattle.blocks.specs.Blocks.{block, setBlock, Bytes}
 use Rattle.code.specs.Decode.{NodeSet, size, recoveredTable}
+use Rattle.entries.specs.declared.Epoch.{Epoch}
 use Rattle.records.specs.declared.Sizes.{Sizes}
-use Rattle.records.specs.declared.Epoch.{Epoch}
 use Rattle.records.specs.declared.Lmode.{Lmode}
 use Rattle.records.specs.declared.Lmode.the-variants as Lmode
 use Rattle.records.specs.declared.Holder.{Holder}

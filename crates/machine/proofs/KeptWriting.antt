@@ -12,11 +12,11 @@ use borrow.Author.Tests.{leb-true, ltb-true, ltb-false, eqb-true, not-true, not-
 use Rattle.blocks.specs.Blocks.{block, setBlock, difference, addTimes, Bytes}
 use Rattle.code.specs.Code.{coefficient}
 use Rattle.code.specs.Decode.{has, including}
+use Rattle.entries.specs.declared.Previous.{Previous}
+use Rattle.entries.specs.declared.Previous.the-variants.{Nothing, Id}
+use Rattle.entries.specs.Entries.{Entry, enter, isListed, isRecentIn, previousRecent}
 use Rattle.records.specs.declared.Sizes.{Sizes}
 use Rattle.records.specs.declared.Refusal.{Refusal}
-use Rattle.records.specs.declared.Previous.{Previous}
-use Rattle.records.specs.declared.Previous.the-variants.{Nothing, Id}
-use Rattle.records.specs.Entries.{Entry, enter, isListed, isRecentIn, previousRecent}
 use Rattle.records.specs.Sizes.{sizesWithin, isClient, isPosition, isNode, isRedundant}
 use Rattle.records.specs.Node.{Node, withEntries, failedNode, nodeWithin}
 use Rattle.records.specs.Node as Node

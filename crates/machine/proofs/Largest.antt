@@ -14,9 +14,9 @@ use lib.ListN.{length, List·getD-eq-default}
 use borrow.Author.Tests.{leb-true, ltb-true, ltb-false, le-leb, lt-leb}
 use Rattle.code.specs.Decode.{NodeSet, has, setOf, size}
 use Rattle.code.proofs.NodeSets.{has-setOf, has-zero, has-past, has-within, setOf-has, count, size-count}
+use Rattle.entries.specs.declared.WriteId.{WriteId}
+use Rattle.entries.specs.Entries.{sameId, isIn}
 use Rattle.records.specs.declared.Sizes.{Sizes}
-use Rattle.records.specs.declared.WriteId.{WriteId}
-use Rattle.records.specs.Entries.{sameId, isIn}
 use Rattle.records.specs.Node.{Node, failedNode, isNorm}
 use Rattle.basics.specs.Lists.{elementAt, everyOf}
 use Rattle.machine.specs.Stripe.{nodeAt}

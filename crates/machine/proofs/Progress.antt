@@ -6,9 +6,9 @@ use mathlib.Core.Bool.{true, false}
 use mathlib.Core.List.{List}
 use Prim.Native.Nat.{ℕ}
 use native.Mathlib.Omega.{arith}
-use Rattle.records.specs.declared.WriteId.{WriteId}
+use Rattle.entries.specs.declared.WriteId.{WriteId}
+use Rattle.entries.specs.Entries.{Entry, isListed}
 use Rattle.records.specs.declared.Opmode.{Opmode}
-use Rattle.records.specs.Entries.{Entry, isListed}
 use Rattle.records.specs.Node.{isNorm, isRecons}
 use Rattle.records.specs.Client.{Write}
 use Rattle.machine.proofs.EntryLaws.{old-listed}

@@ -8,11 +8,11 @@ use Prim.Native.Nat.{ℕ, zero, suc, _+_}
 use lib.Dec.{eqb, leb}
 use lib.ListN.{length}
 use Rattle.code.specs.Decode.{including}
-use Rattle.records.specs.Entries.{isRecentIn, previousRecent}
+use Rattle.entries.specs.Entries.{isRecentIn, previousRecent}
+use Rattle.entries.specs.declared.Previous.{Previous}
+use Rattle.entries.specs.declared.Previous.the-variants.{Nothing, Id}
 use Rattle.records.specs.Node.{isL0, isL1}
 use Rattle.records.specs.declared.Sizes.{Sizes}
-use Rattle.records.specs.declared.Previous.{Previous}
-use Rattle.records.specs.declared.Previous.the-variants.{Nothing, Id}
 use Rattle.records.specs.declared.NodeCall.{NodeCall}
 use Rattle.records.specs.declared.NodeCall.the-variants.{Add, Check}
 use Rattle.records.specs.declared.ClientCall.{ClientCall}

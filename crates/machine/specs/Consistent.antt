@@ -7,9 +7,9 @@ use mathlib.Core.Path.{_≡_}
 use Prim.Native.Nat.{ℕ, _-_, _≤_, _<_}
 use lib.ListN.{length}
 use Rattle.code.specs.Decode.{NodeSet, has, size}
+use Rattle.entries.specs.declared.WriteId.{WriteId}
+use Rattle.entries.specs.Entries.{isIn}
 use Rattle.records.specs.declared.Sizes.{Sizes}
-use Rattle.records.specs.declared.WriteId.{WriteId}
-use Rattle.records.specs.Entries.{isIn}
 use Rattle.records.specs.Node.{Node, isNorm}
 use Rattle.machine.specs.Stripe.{nodeAt}
 use Rattle.machine.specs.Rebuild.{f, atPosition, largest}

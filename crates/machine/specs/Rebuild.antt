@@ -9,13 +9,13 @@ use lib.ListN.{length, take}
 use lib.ListN as ListN
 use Rattle.blocks.specs.Blocks.{block, setBlock}
 use Rattle.code.specs.Decode.{NodeSet, has, setOf, size, lowest, recoveredTable, invertible}
+use Rattle.entries.specs.declared.Epoch.{Epoch}
+use Rattle.entries.specs.declared.WriteId.{WriteId}
+use Rattle.entries.specs.Entries.{Entry, isRecent, isIn, isOldIn}
 use Rattle.records.specs.declared.Sizes.{Sizes}
-use Rattle.records.specs.declared.Epoch.{Epoch}
 use Rattle.records.specs.declared.Lmode.{Lmode}
-use Rattle.records.specs.declared.WriteId.{WriteId}
 use Rattle.records.specs.declared.Refusal.the-variants.{OutOfLimits, OutOfRange, OutOfPhase, Exhausted, Locked, NotHeld, TooFew, NoInverse}
 use Rattle.records.specs.Sizes.{sizesWithin, isClient}
-use Rattle.records.specs.Entries.{Entry, isRecent, isIn, isOldIn}
 use Rattle.records.specs.Node.{Node, epochLimit, isNorm, isRecons, isInit, isL0, isL1, heldBy, heldAtL1, lockedBy, weakenedBy, unlocked, expiredFor}
 use Rattle.records.specs.Node.{givenBack, written, settled}
 use Rattle.records.specs.Client.{Rebuild, NoRebuild, Locking, Picking, Writing, Settling, Unlocking, hasRebuild, withRebuild}

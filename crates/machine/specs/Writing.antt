@@ -14,15 +14,15 @@ use lib.ListN.{length}
 use Rattle.blocks.specs.Blocks.{block, setBlock, difference, addTimes}
 use Rattle.code.specs.Code.{coefficient}
 use Rattle.code.specs.Decode.{NodeSet, has, noNodes, including, excluding, each}
+use Rattle.entries.specs.declared.Previous.{Previous}
+use Rattle.entries.specs.declared.Previous.the-variants.{Nothing, Id}
+use Rattle.entries.specs.declared.WriteId.{WriteId}
+use Rattle.entries.specs.Entries.{Entry, isListed, isRecentIn, previousRecent, lastRecent, discard, markOld, entryLimit, finishedLimit, writeLimit}
 use Rattle.records.specs.declared.Sizes.{Sizes}
-use Rattle.records.specs.declared.Previous.{Previous}
-use Rattle.records.specs.declared.Previous.the-variants.{Nothing, Id}
-use Rattle.records.specs.declared.WriteId.{WriteId}
 use Rattle.records.specs.declared.Refusal.the-variants.{OutOfLimits, OutOfRange, OutOfPhase, WrongMode, OldEpoch, BeforePrevious, Full, Exhausted}
 use Rattle.records.specs.Sizes.{sizesWithin, isNode, isPosition, isRedundant, isClient}
-use Rattle.records.specs.Entries.{Entry, isListed, isRecentIn, previousRecent, lastRecent, discard, markOld}
-use Rattle.records.specs.Node.{Node, entryLimit, isFree, takesAdd, entered, withEntries, nodeWithin}
-use Rattle.records.specs.Client.{Client, Write, finishedLimit, writeLimit, hasWrite, withHand, began, finishedWrite, sweptOn, clientWithin}
+use Rattle.records.specs.Node.{Node, isFree, takesAdd, entered, withEntries, nodeWithin}
+use Rattle.records.specs.Client.{Client, Write, hasWrite, withHand, began, finishedWrite, sweptOn, clientWithin}
 use Rattle.machine.specs.Stripe.{Accepted, Shown, Added, Done, CheckInit, CheckGc, NoChange, Outcome, answered, refused, guard, Local}
 use Rattle.machine.specs.Stripe.{blocksFit, differencesFit}
 

@@ -14,9 +14,9 @@ use Rattle.code.specs.declared.nodes.NodeSet.{NodeSet}
 use Rattle.machine.specs.Stripe.{Whole, Accepted, answered, refused, nodeAt}
 use Rattle.basics.specs.Lists.{setAt}
 use Rattle.machine.specs.Rebuild.{advanced, holding, lockIn, tightenIn, writeIn, settleIn, unlockIn}
+use Rattle.entries.specs.declared.Epoch.{Epoch}
 use Rattle.records.specs.declared.Sizes.{Sizes}
 use Rattle.records.specs.declared.ClientRecord.{ClientRecord}
-use Rattle.records.specs.declared.Epoch.{Epoch}
 use Rattle.code.specs.View.{nodeSetOf}
 use Rattle.records.specs.declared.Phase.{Phase}
 use Rattle.records.specs.declared.Phase.the-variants.{NoRebuild, Locking, Picking, Writing, Settling, Unlocking}

@@ -14,13 +14,13 @@ use Rattle.code.specs.declared.nodes.NodeSet.{NodeSet}
 use Rattle.code.specs.Decode.{has, including, excluding}
 use Rattle.code.specs.View.{nodeSetOf}
 use Rattle.code.proofs.NodeSets.{has-put}
+use Rattle.entries.proofs.Lists.{listOf-more}
 use Rattle.records.specs.declared.Sizes.{Sizes}
 use Rattle.records.specs.declared.Lmode.{Lmode}
 use Rattle.records.specs.declared.Lmode.the-variants.{Unl, L0, L1, Exp}
 use Rattle.records.specs.Node.{isUnl, isExp, isL0, isL1}
 use Rattle.records.specs.Client.{Rebuild, Picking, Locking, unlOrExp, rebuildWithin, lockedRebuild}
 use Rattle.records.specs.View.{oldLmode, oldLmodes}
-use Rattle.records.proofs.Lists.{listOf-more}
 
 -- ---- the old lmodes of x nodes, of which those in s were EXP
 

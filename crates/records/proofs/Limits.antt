@@ -11,18 +11,20 @@ use lib.ListN.{length}
 use Rattle.basics.proofs.Tests.{and-left, and-right}
 use Rattle.code.specs.Code.{codeSizes}
 use Rattle.code.proofs.Sizes.{sizes-of}
+use Rattle.entries.specs.declared.WriteId.{WriteId}
+use Rattle.entries.specs.Entries.{finishedLimit, idsWithin}
+use Rattle.entries.specs.View.{entriesOf}
+use Rattle.entries.proofs.Lists.{entries-count}
 use Rattle.records.specs.declared.Sizes.{Sizes}
 use Rattle.records.specs.declared.Lmode.{Lmode}
 use Rattle.records.specs.declared.Lmode.the-variants.{Unl, L0, L1, Exp}
 use Rattle.records.specs.declared.Holder.the-variants as Holder
-use Rattle.records.specs.declared.WriteId.{WriteId}
 use Rattle.records.specs.declared.NodeRecord.{NodeRecord}
 use Rattle.records.specs.Sizes.{sizesWithin, isClient}
 use Rattle.records.specs.Node.{isL0, isL1, holderWithin, nodeWithin}
-use Rattle.records.specs.Client.{Client, Write, finishedLimit, handWithin, rebuildWithin, idsWithin, clientWithin}
+use Rattle.records.specs.Client.{Client, Write, handWithin, rebuildWithin, clientWithin}
 use Rattle.records.specs.ClientSteps.{listsWithin}
-use Rattle.records.specs.View.{entriesOf, nodeOf}
-use Rattle.records.proofs.Lists.{entries-count}
+use Rattle.records.specs.View.{nodeOf}
 
 -- no holder where nobody can be one; a client where there is one
 pub nobody-within : (z : Sizes) (l : Lmode) → not (isL0 l || isL1 l) ≡ holderWithin z l Holder.Nobody
@@ -56,8 +58,8 @@ hand-room z (some w) ids e = le-leb (length ids) 8 (omega (arith, few))
 pub client-tests : (z : Sizes) (x : Client) → clientWithin z x ≡ (handWithin z (x .hand) (x .finished) && (rebuildWithin z (x .rebuild) && listsWithin z x))
 unfolding clientWithin
 client-tests z x =
-    beside (handWithin z (x .hand) (x .finished)) (rebuildWithin z (x .rebuild)) (leb (length (x .finished)) finishedLimit) (idsWithin z (x .finished))
-    (leb (length (x .moved)) finishedLimit) (idsWithin z (x .moved)) _ (hand-room z (x .hand) (x .finished))
+    beside (handWithin z (x .hand) (x .finished)) (rebuildWithin z (x .rebuild)) (leb (length (x .finished)) finishedLimit) (idsWithin (z .k) (z .m) (x .finished))
+    (leb (length (x .moved)) finishedLimit) (idsWithin (z .k) (z .m) (x .moved)) _ (hand-room z (x .hand) (x .finished))
   where
     beside : (h r l f m i w : Bool) → (h ≡ true → l ≡ true) → (h && (r && (f && (m && (i && w))))) ≡ (h && (r && ((l && f) && ((m && i) && w))))
     beside true r l f m i w e = rw (e refl, and-assoc m i w)

@@ -6,15 +6,15 @@ use Prim.Native.Nat.{ℕ, _+_, _*_}
 use lib.Dec.{eqb, leb, ltb}
 use lib.ListN.{length}
 use Rattle.code.specs.Decode.{NodeSet}
+use Rattle.entries.specs.declared.WriteId.{WriteId}
+use Rattle.entries.specs.declared.WriteNumber.{WriteNumber}
+use Rattle.entries.specs.declared.Epoch.{Epoch}
+use Rattle.entries.specs.declared.Previous.{Previous}
+use Rattle.entries.specs.Entries.{finishedLimit, writeLimit, idWithin, idsWithin, previousWithin}
 use Rattle.records.specs.declared.Sizes.{Sizes}
-use Rattle.records.specs.declared.WriteId.{WriteId}
-use Rattle.records.specs.declared.WriteNumber.{WriteNumber}
-use Rattle.records.specs.declared.Epoch.{Epoch}
-use Rattle.records.specs.declared.Previous.{Previous}
-use Rattle.records.specs.declared.Previous.the-variants.{Nothing, Id}
 use Rattle.records.specs.declared.Lmode.{Lmode}
 use Rattle.records.specs.Sizes.{isNode}
-use Rattle.records.specs.Node.{idWithin, setWithin, epochLimit, isUnl, isExp}
+use Rattle.records.specs.Node.{setWithin, epochLimit, isUnl, isExp}
 
 -- "at most one write in hand (position, id, previous id or none, epoch, difference, set of nodes done)". The position is the id's own;
 -- the difference is in the table of differences
@@ -43,12 +43,6 @@ pub record Client : Type 0 where
   pub moved : List WriteId
   pub round : ℕ
   pub next : WriteNumber
-
-abbrev pub finishedLimit : ℕ
-finishedLimit = 8
-
-abbrev pub writeLimit : ℕ
-writeLimit = 1000000
 
 abbrev pub freshClient : Client
 freshClient = record { hand = none; rebuild = NoRebuild; finished = []; moved = []; round = 0; next = record { 0 = 0 } }
@@ -122,21 +116,12 @@ nextRebuild n (Writing x set e) = cond (leb n x) (Settling 1 e) (Writing (x + 1)
 nextRebuild n (Settling x e) = cond (leb n x) (Unlocking 1) (Settling (x + 1) e)
 nextRebuild n (Unlocking x) = cond (leb n x) NoRebuild (Unlocking (x + 1))
 
--- "record .. outside the limits" (docs/DECISIONS.md)
-unfoldable pub idsWithin : Sizes → List WriteId → Bool
-idsWithin z [] = true
-idsWithin z (x ∷ ids) = idWithin z x && idsWithin z ids
-
-abbrev pub previousWithin : Sizes → Previous → Bool
-previousWithin z Nothing = true
-previousWithin z (Id x) = idWithin z x
-
--- a write in hand leaves room for its own id in the finished list
+-- "record .. outside the limits" (docs/DECISIONS.md); a write in hand leaves room for its own id in the finished list
 abbrev pub handWithin : Sizes → Option Write → List WriteId → Bool
 handWithin z none finished = leb (length finished) finishedLimit
 handWithin z (some w) finished =
-    idWithin z (w .id) &&
-    (previousWithin z (w .previous) && (leb (w .epoch .0) epochLimit && (setWithin (z .n) (w .done) && ltb (length finished) finishedLimit)))
+    idWithin (z .k) (z .m) (w .id) &&
+    (previousWithin (z .k) (z .m) (w .previous) && (leb (w .epoch .0) epochLimit && (setWithin (z .n) (w .done) && ltb (length finished) finishedLimit)))
 
 unfoldable pub unlOrExp : List Lmode → Bool
 unlOrExp [] = true
@@ -154,5 +139,5 @@ unfoldable pub clientWithin : Sizes → Client → Bool
 clientWithin z x =
     handWithin z (x .hand) (x .finished) &&
     (rebuildWithin z (x .rebuild) &&
-    (idsWithin z (x .finished) &&
-    (leb (length (x .moved)) finishedLimit && (idsWithin z (x .moved) && (ltb (x .round) (2 * z .n) && leb (x .next .0) writeLimit)))))
+    (idsWithin (z .k) (z .m) (x .finished) &&
+    (leb (length (x .moved)) finishedLimit && (idsWithin (z .k) (z .m) (x .moved) && (ltb (x .round) (2 * z .n) && leb (x .next .0) writeLimit)))))

@@ -1,22 +1,22 @@
 -- Document 01, "Records": a node's record, and what the calls do to one record. Assumes nothing.
 use mathlib.Core.Bool.{Bool, true, false, cond, _&&_, _||_, not}
-use mathlib.Core.List.{List, [], _∷_}
+use mathlib.Core.List.{List, []}
 use Prim.Native.Nat.{ℕ, _+_}
 use lib.Dec.{eqb, leb, ltb}
 use lib.ListN.{length}
 use Rattle.code.specs.Decode.{NodeSet, noNodes}
 unfoldable pub use Rattle.code.specs.Decode.{setWithin}
+use Rattle.entries.specs.declared.WriteId.{WriteId}
+use Rattle.entries.specs.declared.Epoch.{Epoch}
+use Rattle.entries.specs.Entries.{Entry, entryLimit, enter, someDue, entriesWithin}
 use Rattle.records.specs.declared.Sizes.{Sizes}
-use Rattle.records.specs.declared.WriteId.{WriteId}
-use Rattle.records.specs.declared.Epoch.{Epoch}
 use Rattle.records.specs.declared.Opmode.{Opmode}
 use Rattle.records.specs.declared.Opmode.the-variants.{Norm, Recons, Init}
 use Rattle.records.specs.declared.Lmode.{Lmode}
 use Rattle.records.specs.declared.Lmode.the-variants.{Unl, L0, L1, Exp}
 use Rattle.records.specs.declared.Holder.{Holder}
 use Rattle.records.specs.declared.Holder.the-variants.{Nobody, Client}
-use Rattle.records.specs.Sizes.{isClient, isPosition}
-use Rattle.records.specs.Entries.{Entry, enter, someDue}
+use Rattle.records.specs.Sizes.{isClient}
 
 -- "A node has: block; opmode ..; lmode ..; holder ..; epoch; a set of nodes rset; and up to 16 entries". The block is in the block table
 pub record Node : Type 0 where
@@ -26,9 +26,6 @@ pub record Node : Type 0 where
   pub epoch : Epoch
   pub rset : NodeSet
   pub entries : List Entry
-
-abbrev pub entryLimit : ℕ
-entryLimit = 16
 
 abbrev pub epochLimit : ℕ
 epochLimit = 1000000
@@ -140,13 +137,6 @@ abbrev pub isDue : Node → Bool
 isDue x = isInit (x .opmode) || someDue (x .entries)
 
 -- "record .. outside the limits" (docs/DECISIONS.md): a holder at L0 and L1 alone, and every number in its range
-unfoldable pub idWithin : Sizes → WriteId → Bool
-idWithin z x = isClient z (x .client) && (isPosition z (x .position) && leb (x .number .0) 999999)
-
-unfoldable pub entriesWithin : Sizes → List Entry → Bool
-entriesWithin z [] = true
-entriesWithin z (e ∷ es) = idWithin z (e .id) && (leb (e .age .0) 255 && entriesWithin z es)
-
 abbrev pub holderWithin : Sizes → Lmode → Holder → Bool
 holderWithin z Unl Nobody = true
 holderWithin z Unl (Client c) = false
@@ -160,4 +150,4 @@ holderWithin z Exp (Client c) = false
 unfoldable pub nodeWithin : Sizes → Node → Bool
 nodeWithin z x =
     holderWithin z (x .lmode) (x .holder) &&
-    (leb (x .epoch .0) epochLimit && (setWithin (z .n) (x .rset) && (leb (length (x .entries)) entryLimit && entriesWithin z (x .entries))))
+    (leb (x .epoch .0) epochLimit && (setWithin (z .n) (x .rset) && (leb (length (x .entries)) entryLimit && entriesWithin (z .k) (z .m) (x .entries))))

@@ -6,11 +6,12 @@ use Prim.Native.Nat.{ℕ}
 use lib.Dec.{leb, ltb}
 use lib.ListN.{length}
 use Rattle.code.specs.Decode.{noNodes}
+use Rattle.entries.specs.declared.Previous.{Previous}
+use Rattle.entries.specs.declared.Previous.the-variants.{Nothing, Id}
+use Rattle.entries.specs.Entries.{isListed, isRecentIn, previousRecent, entryLimit}
 use Rattle.records.specs.declared.Opmode.{Opmode}
 use Rattle.records.specs.declared.Lmode.the-variants.{Unl}
 use Rattle.records.specs.declared.Holder.the-variants.{Nobody}
-use Rattle.records.specs.declared.Previous.{Previous}
-use Rattle.records.specs.declared.Previous.the-variants.{Nothing, Id}
 use Rattle.records.specs.declared.Write.{Write}
 use Rattle.records.specs.declared.NodeRecord.{NodeRecord}
 use Rattle.records.specs.declared.NodeStep.{NodeStep}
@@ -20,8 +21,7 @@ use Rattle.records.specs.declared.CheckAnswer.{CheckAnswer}
 use Rattle.records.specs.declared.CheckAnswer.the-variants.{Init, Gc, NoChange}
 use Rattle.records.specs.declared.Refusal.{Refusal}
 use Rattle.records.specs.declared.Refusal.the-variants.{OutOfPhase, WrongMode, OldEpoch, BeforePrevious, Full, Locked, NotHeld}
-use Rattle.records.specs.Entries.{isListed, isRecentIn, previousRecent}
-use Rattle.records.specs.Node.{Node, entryLimit, isRecons, isFree, takesAdd, isL0, isL1, heldBy}
+use Rattle.records.specs.Node.{Node, isRecons, isFree, takesAdd, isL0, isL1, heldBy}
 use Rattle.records.specs.View.{nodeOf}
 
 -- a node with nothing: fresh it is NORM, failed it is INIT

@@ -1,19 +1,13 @@
--- How the records of the code are seen as those of document 01. A list is the first `count` items of its array; where the count is beyond the
--- array, blank items stand for the rest, so that the list is as long as the count says, and such a record is outside the limits. Assumes nothing.
+-- How the records of the code are seen as those of document 01. Assumes nothing.
 use mathlib.Core.Bool.{Bool, cond}
 use mathlib.Core.List.{List}
 use mathlib.Core.Option.{Option, none, some}
 use Prim.Native.Nat.{ℕ, suc}
-use lib.ListN.{getD}
 use Rattle.basics.specs.Lists.{listOf}
 use Rattle.code.specs.declared.nodes.NodeSet.{NodeSet}
 use Rattle.code.specs.Decode.{has}
 use Rattle.code.specs.View.{nodeSetOf}
-use Rattle.records.specs.declared.WriteId.{WriteId}
-use Rattle.records.specs.declared.Entry as Declared
-use Rattle.records.specs.declared.Mark.the-variants.{Recent}
-use Rattle.records.specs.declared.Ids.{Ids}
-use Rattle.records.specs.declared.Entries.{Entries}
+use Rattle.entries.specs.View.{idsOf, entriesOf}
 use Rattle.records.specs.declared.NodeRecord.{NodeRecord}
 use Rattle.records.specs.declared.Lmode.{Lmode}
 use Rattle.records.specs.declared.Lmode.the-variants.{Unl, Exp}
@@ -24,23 +18,7 @@ use Rattle.records.specs.declared.Phase.{Phase}
 use Rattle.records.specs.declared.Phase.the-variants as Phase
 use Rattle.records.specs.declared.ClientRecord.{ClientRecord}
 use Rattle.records.specs.Client as Client
-use Rattle.records.specs.Entries.{Entry}
 use Rattle.records.specs.Node.{Node}
-
-abbrev pub blankId : WriteId
-blankId = record { client = 0; position = 0; number = record { 0 = 0 } }
-
-abbrev pub idsOf : Ids → List WriteId
-idsOf s = listOf (s .count) (λ i. getD (s .items) i blankId)
-
-abbrev pub entryOf : Declared.Entry → Entry
-entryOf e = record { id = record { client = e .client; position = e .position; number = e .number }; mark = e .mark; age = e .age }
-
-abbrev pub blankEntry : Declared.Entry
-blankEntry = record { number = record { 0 = 0 }; client = 0; position = 0; mark = Recent; age = record { 0 = 0 } }
-
-abbrev pub entriesOf : Entries → List Entry
-entriesOf s = listOf (s .count) (λ i. entryOf (getD (s .items) i blankEntry))
 
 abbrev pub nodeOf : NodeRecord → Node
 nodeOf x =

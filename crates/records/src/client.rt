@@ -7,35 +7,26 @@ ghost use lib.Dec.{ltb};
 ghost use lib.ListN.{length};
 ghost use Rattle.code.specs.Decode.{noNodes, including, excluding};
 ghost use Rattle.code.specs.View.{nodeSetOf};
+ghost use Rattle.entries.specs.Entries.{writeLimit, finishedLimit};
+ghost use Rattle.entries.specs.View.{idsOf};
 ghost use Rattle.records.specs.Sizes.{sizesWithin};
 ghost use Rattle.records.specs.Node.{isL0, isL1};
-ghost use Rattle.records.specs.Client.{NoRebuild, Picking, Writing, writeLimit, freshClient, stopped, withHand, withRebuild, began, finishedWrite, sweptOn, hasWrite, hasRebuild, remembered, nextNode, lockedRebuild, nextRebuild, previousWithin, handWithin, rebuildWithin, clientWithin};
+ghost use Rattle.records.specs.Client.{NoRebuild, Picking, Writing, freshClient, stopped, withHand, withRebuild, began, finishedWrite, sweptOn, hasWrite, hasRebuild, remembered, nextNode, lockedRebuild, nextRebuild, handWithin, rebuildWithin, clientWithin};
 ghost use Rattle.records.specs.ClientSteps.{listsWithin, idleClient};
-ghost use Rattle.records.specs.View.{idsOf, writeOf, handOf, oldLmodes, rebuildOf, clientOf};
+ghost use Rattle.records.specs.View.{writeOf, handOf, oldLmodes, rebuildOf, clientOf};
 use crate::ClientRecord;
-use crate::Epoch;
 use crate::Hand;
-use crate::Ids;
 use crate::Lmode;
 use crate::NodeRecord;
 use crate::Phase;
-use crate::Previous;
 use crate::Sizes;
 use crate::Write;
-use crate::WriteId;
-use crate::WriteNumber;
 use code::NodeSet;
-
-impl Previous {
-    pub fn is_within(self, z: Sizes) -> bool
-        ensures { λ r. ⌜ r ≡ previousWithin z self ⌝ }
-    {
-        match self {
-            Previous::Nothing => true,
-            Previous::Id(id) => id.is_within(z),
-        }
-    }
-}
+use entries::Epoch;
+use entries::Ids;
+use entries::Previous;
+use entries::WriteId;
+use entries::WriteNumber;
 
 impl Write {
     // Done at its own position alone.
@@ -67,8 +58,8 @@ impl Write {
         let id = self.id;
         let previous = self.previous;
         let done = self.done;
-        id.is_within(z)
-            && (previous.is_within(z)
+        id.is_within(z.k, z.m)
+            && (previous.is_within(z.k, z.m)
                 && (self.epoch.0 <= NodeRecord::EPOCHS
                     && (done.is_within(z.n) && finished.count < Ids::LIMIT)))
     }
@@ -184,7 +175,7 @@ impl Phase {
 }
 
 impl ClientRecord {
-    pub const WRITES: u32 = 1_000_000;
+    pub const WRITES: u32 = WriteNumber::LIMIT;
 
     pub fn fresh() -> Self
         ensures { λ r. ⌜ clientOf r ≡ freshClient ⌝ }
@@ -218,8 +209,8 @@ impl ClientRecord {
         requires { ⌜ sizesWithin z ≡ true ⌝ }
         ensures { λ r. ⌜ r ≡ listsWithin z (clientOf self) ⌝ }
     {
-        self.finished.is_within(z)
-            && (self.moved.is_within(z)
+        self.finished.is_within(z.k, z.m)
+            && (self.moved.is_within(z.k, z.m)
                 && ((self.round as usize) < 2 * z.n && self.next.0 <= ClientRecord::WRITES))
     }
 
@@ -288,7 +279,7 @@ impl ClientRecord {
     }
 
     pub fn finish(self, id: WriteId) -> Self
-        requires { ⌜ self .finished .count < 8 ⌝ }
+        requires { ⌜ self .finished .count < finishedLimit ⌝ }
         ensures { λ r. ⌜ clientOf r ≡ finishedWrite id (clientOf self) ⌝ }
     {
         let mut client = self;

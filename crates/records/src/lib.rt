@@ -1,63 +1,18 @@
-// The records of a stripe: write ids, entries, nodes and clients, the sizes, the families of calls, and the refusals with their numbers.
+// The records of a stripe: nodes and clients, the sizes, the families of calls, and the refusals with their numbers.
 // The types are here; their methods, each with self by value, are in a file for each record.
 mod client; // client.rt: a client's record, its write in hand, its rebuild
 mod node; // node.rt: a node's record and its calls
-mod node_entries; // node_entries.rt: an entry, a node's list of entries
 mod ranges; // ranges.rt: the ranges of numbers, the limits of the sizes
-mod write_ids; // write_ids.rt: a write id, a client's list of ids
 
 ghost use mathlib.Core.Path.{_≡_};
 ghost use Rattle.records.specs.Refusals.{numberOf};
 use code::NodeSet;
-
-// A client's count of its writes.
-pub struct WriteNumber(pub u32);
-
-// A node's count of the rebuilds that it went through.
-pub struct Epoch(pub u32);
-
-// How many swaps and adds a node accepted after an entry.
-pub struct Age(pub u8);
-
-pub struct WriteId {
-    pub client: u8,
-    pub position: u8,
-    pub number: WriteNumber,
-}
-
-pub enum Mark {
-    Recent,
-    Old,
-}
-
-// A write id, its mark and its age, in eight bytes.
-pub struct Entry {
-    pub number: WriteNumber,
-    pub client: u8,
-    pub position: u8,
-    pub mark: Mark,
-    pub age: Age,
-}
-
-impl Entries {
-    pub const LIMIT: usize = 16;
-}
-
-// A node's entries in order of arrival: the first count items.
-pub struct Entries {
-    pub items: [Entry; Entries::LIMIT],
-    pub count: usize,
-}
-
-impl Ids {
-    pub const LIMIT: usize = 8;
-}
-
-// A client's list of ids: the first count items.
-pub struct Ids {
-    pub items: [WriteId; Ids::LIMIT],
-    pub count: usize,
-}
+use entries::Entries;
+use entries::Epoch;
+use entries::Ids;
+use entries::Previous;
+use entries::WriteId;
+use entries::WriteNumber;
 
 pub enum Opmode {
     Norm,
@@ -75,11 +30,6 @@ pub enum Lmode {
 pub enum Holder {
     Nobody,
     Client(u8),
-}
-
-pub enum Previous {
-    Nothing,
-    Id(WriteId),
 }
 
 // A node but for its block, which is in the block table.

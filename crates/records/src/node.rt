@@ -3,27 +3,28 @@ ghost use mathlib.Core.Bool.{_&&_, _||_};
 ghost use mathlib.Core.Path.{_≡_};
 ghost use Prim.Native.Nat.{_<_, _≤_};
 ghost use Rattle.code.specs.View.{nodeSetOf};
-ghost use Rattle.records.specs.Entries.{discard, markOld};
+ghost use Rattle.entries.specs.Entries.{entryLimit, finishedLimit, discard, markOld};
+ghost use Rattle.entries.specs.View.{idsOf};
 ghost use Rattle.records.specs.Node.{epochLimit, freshNode, failedNode, isNorm, isRecons, isInit, isUnl, isExp, isL0, isL1, isHolder, isFree, takesAdd, heldBy, heldAtL1, withEntries, withLmode, entered, lockedBy, weakenedBy, unlocked, expiredFor, givenBack, written, settled, isDue, holderWithin, nodeWithin};
 ghost use Rattle.records.specs.NodeSteps.{Meets, emptyNode, enterAnswer, readAnswer, swapAnswer, afterPrevious, addAnswer, sweepAnswer, lockAnswer, heldAnswer, weakenAnswer, checkAnswer};
-ghost use Rattle.records.specs.View.{idsOf, nodeOf};
+ghost use Rattle.records.specs.View.{nodeOf};
 use crate::CheckAnswer;
 use crate::CheckStep;
-use crate::Entries;
-use crate::Epoch;
 use crate::Holder;
-use crate::Ids;
 use crate::Lmode;
 use crate::NodeAnswer;
 use crate::NodeRecord;
 use crate::NodeStep;
 use crate::Opmode;
-use crate::Previous;
 use crate::Refusal;
 use crate::Sizes;
 use crate::Write;
-use crate::WriteId;
 use code::NodeSet;
+use entries::Entries;
+use entries::Epoch;
+use entries::Ids;
+use entries::Previous;
+use entries::WriteId;
 
 impl Opmode {
     pub fn is_norm(self) -> bool
@@ -199,7 +200,7 @@ impl NodeRecord {
     }
 
     pub fn is_due(self) -> bool
-        requires { ⌜ self .entries .count ≤ 16 ⌝ }
+        requires { ⌜ self .entries .count ≤ entryLimit ⌝ }
         ensures { λ r. ⌜ r ≡ isDue (nodeOf self) ⌝ }
     {
         let opmode = self.opmode;
@@ -214,7 +215,7 @@ impl NodeRecord {
         let rset = self.rset;
         holder.is_within(lmode, z)
             && (self.epoch.0 <= NodeRecord::EPOCHS
-                && (rset.is_within(z.n) && self.entries.is_within(z)))
+                && (rset.is_within(z.n) && self.entries.is_within(z.k, z.m)))
     }
 
     // ---- answers
@@ -281,7 +282,7 @@ impl NodeRecord {
 
     // The id entered, if the previous one is listed.
     fn enter_after(self, previous: Previous, id: WriteId) -> NodeStep
-        requires { ⌜ self .entries .count ≤ 16 ⌝ }
+        requires { ⌜ self .entries .count ≤ entryLimit ⌝ }
         ensures { λ r. ⌜ Meets (afterPrevious previous (nodeOf self) (enterAnswer (nodeOf self))) (entered id (nodeOf self)) self r ⌝ }
     {
         match previous {
@@ -297,7 +298,7 @@ impl NodeRecord {
     }
 
     pub fn add(self, write: Write) -> NodeStep
-        requires { ⌜ self .entries .count ≤ 16 ⌝ }
+        requires { ⌜ self .entries .count ≤ entryLimit ⌝ }
         ensures { λ r. ⌜ Meets (addAnswer write (nodeOf self)) (entered (write .id) (nodeOf self)) self r ⌝ }
     {
         if !self.takes_add() {
@@ -314,7 +315,7 @@ impl NodeRecord {
 
     // What the node tells of a write whose id it was sent.
     fn told(self, write: Write) -> CheckAnswer
-        requires { ⌜ self .entries .count ≤ 16 ⌝ }
+        requires { ⌜ self .entries .count ≤ entryLimit ⌝ }
         ensures { λ r. ⌜ r ≡ checkAnswer write (nodeOf self) ⌝ }
     {
         let id = write.id;
@@ -330,7 +331,7 @@ impl NodeRecord {
     }
 
     pub fn check(self, write: Write) -> CheckStep
-        requires { ⌜ self .entries .count ≤ 16 ⌝ }
+        requires { ⌜ self .entries .count ≤ entryLimit ⌝ }
         ensures { λ r. ⌜ r ≡ record { answer = checkAnswer write (nodeOf self); node = self } ⌝ }
     {
         let answer = self.told(write);
@@ -341,7 +342,7 @@ impl NodeRecord {
     }
 
     pub fn discard(self, moved: Ids) -> NodeStep
-        requires { ⌜ (self .entries .count ≤ 16) × (moved .count ≤ 8) ⌝ }
+        requires { ⌜ (self .entries .count ≤ entryLimit) × (moved .count ≤ finishedLimit) ⌝ }
         ensures { λ r. ⌜ Meets (sweepAnswer (nodeOf self)) (withEntries (nodeOf self) (discard (idsOf moved) (nodeOf self .entries))) self r ⌝ }
     {
         if !self.is_free() {
@@ -353,7 +354,7 @@ impl NodeRecord {
     }
 
     pub fn mark(self, finished: Ids) -> NodeStep
-        requires { ⌜ (self .entries .count ≤ 16) × (finished .count ≤ 8) ⌝ }
+        requires { ⌜ (self .entries .count ≤ entryLimit) × (finished .count ≤ finishedLimit) ⌝ }
         ensures { λ r. ⌜ Meets (sweepAnswer (nodeOf self)) (withEntries (nodeOf self) (markOld (idsOf finished) (nodeOf self .entries))) self r ⌝ }
     {
         if !self.is_free() {

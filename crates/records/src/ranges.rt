@@ -6,6 +6,7 @@ ghost use lib.Dec.{leb, ltb};
 ghost use Rattle.code.specs.Code.{codeSizes};
 ghost use Rattle.records.specs.Sizes.{sizesWithin, isNode, isPosition, isRedundant, isClient};
 use crate::Sizes;
+use entries::is_up_to;
 
 fn is_between(x: usize, low: usize, high: usize) -> bool
     ensures { λ r. ⌜ r ≡ (leb low x && leb x high) ⌝ }
@@ -40,19 +41,19 @@ impl Sizes {
     pub fn is_client(self, c: u8) -> bool
         ensures { λ r. ⌜ r ≡ isClient self c ⌝ }
     {
-        is_between(c as usize, 1, self.m)
+        is_up_to(c, self.m)
     }
 
     pub fn is_position(self, i: u8) -> bool
         ensures { λ r. ⌜ r ≡ isPosition self i ⌝ }
     {
-        is_between(i as usize, 1, self.k)
+        is_up_to(i, self.k)
     }
 
     pub fn is_node(self, j: u8) -> bool
         ensures { λ r. ⌜ r ≡ isNode self j ⌝ }
     {
-        is_between(j as usize, 1, self.n)
+        is_up_to(j, self.n)
     }
 
     pub fn is_redundant(self, j: u8) -> bool

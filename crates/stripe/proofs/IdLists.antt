@@ -9,11 +9,11 @@ use lib.ListN.{length, getD}
 use Rattle.basics.specs.Lists.{listOf}
 use Rattle.basics.proofs.Lists.{length-listOf}
 use Rattle.machine.specs.Rebuild.{oldSomewhere, recentIds, atPosition}
-use Rattle.records.specs.declared.WriteId.{WriteId}
-use Rattle.records.specs.Entries.{sameId, isRecent, isIn}
+use Rattle.entries.specs.declared.WriteId.{WriteId}
+use Rattle.entries.specs.Entries.{sameId, isRecent, isIn}
+use Rattle.entries.specs.View.{blankId}
+use Rattle.entries.proofs.Lists.{listOf-more, Search}
 use Rattle.records.specs.Node.{Node}
-use Rattle.records.specs.View.{blankId}
-use Rattle.records.proofs.Lists.{listOf-more, Search}
 use Rattle.stripe.specs.declared.sets.RecentIds.{RecentIds}
 use Rattle.stripe.specs.View.{recentOf}
 

@@ -19,10 +19,10 @@ use Rattle.machine.specs.Stripe.{nodeAt}
 use Rattle.records.specs.declared.NodeRecord.{NodeRecord}
 use Rattle.records.specs.declared.Sizes.{Sizes}
 use Rattle.machine.specs.Rebuild.{countInit, largestEpoch}
+use Rattle.entries.proofs.Lists.{Search, listOf-more}
 use Rattle.records.specs.Node.{Node, failedNode, isInit, nodeWithin}
 use Rattle.records.specs.View.{nodeOf}
 use Rattle.records.proofs.Limits.{few-entries}
-use Rattle.records.proofs.Lists.{Search, listOf-more}
 use Rattle.stripe.specs.declared.nodes.Nodes.{Nodes}
 use Rattle.stripe.specs.View.{blankRecord, recordAt, nodesOf, Counted}
 use Rattle.stripe.proofs.nodes.Nodes.{the-type}

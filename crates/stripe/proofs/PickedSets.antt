@@ -13,10 +13,10 @@ use Rattle.code.proofs.Members.{set-cong}
 use Rattle.code.proofs.NodeSets.{has-setOf}
 use Rattle.machine.specs.Stripe.{nodeAt}
 use Rattle.machine.specs.Rebuild.{f, fits}
+use Rattle.entries.specs.View.{entriesOf}
+use Rattle.entries.proofs.Lists.{entries-count}
 use Rattle.records.specs.declared.Sizes.{Sizes}
 use Rattle.records.specs.Node.{isNorm}
-use Rattle.records.specs.View.{entriesOf}
-use Rattle.records.proofs.Lists.{entries-count}
 use Rattle.stripe.specs.declared.nodes.Nodes.{Nodes}
 use Rattle.stripe.specs.declared.sets.Recents.{Recents}
 use Rattle.stripe.specs.Sets.{fitsBeside, idsAt, Knows}

@@ -4,8 +4,8 @@ use mathlib.Core.List.{List, _++_, map}
 use Prim.Native.Nat.{ℕ, _≤_}
 use lib.ListN.{take, drop}
 use Rattle.code.specs.Decode.{has}
+use Rattle.entries.specs.Entries.{isOldIn}
 use Rattle.records.specs.declared.NodeRecord.{NodeRecord}
-use Rattle.records.specs.Entries.{isOldIn}
 use Rattle.records.specs.Node.{Node, isNorm, isRecons, heldBy, heldAtL1, weakenedBy, expiredFor, nodeWithin}
 use Rattle.stripe.specs.declared.nodes.NodeTest.{NodeTest}
 use Rattle.stripe.specs.declared.nodes.NodeTest.the-variants.{Outside, NotHeld, NotHeldAtL1, Recons, OldAtNorm, Rebuilding}

@@ -9,8 +9,8 @@ use Rattle.code.specs.Decode.{NodeSet, has, size}
 use Rattle.machine.specs.Stripe.{nodeAt}
 use Rattle.basics.specs.Lists.{someOf}
 use Rattle.machine.specs.Rebuild.{f, atPosition, sameIds, besides}
+use Rattle.entries.specs.declared.WriteId.{WriteId}
 use Rattle.records.specs.declared.Sizes.{Sizes}
-use Rattle.records.specs.declared.WriteId.{WriteId}
 use Rattle.records.specs.Node.{Node, isNorm, isRecons, isInit}
 use Rattle.stripe.specs.declared.nodes.Nodes.{Nodes}
 use Rattle.stripe.specs.declared.sets.RecentIds.{RecentIds}

@@ -3,13 +3,14 @@ use mathlib.Core.List.{List, []}
 use Prim.Native.Nat.{ℕ, suc, _≤_, _<_}
 use lib.ListN.{getD}
 use Rattle.basics.specs.Lists.{listOf}
+use Rattle.entries.specs.declared.WriteId.{WriteId}
+use Rattle.entries.specs.View.{blankId}
 use Rattle.records.specs.declared.NodeRecord.{NodeRecord}
 use Rattle.records.specs.declared.Opmode.the-variants.{Norm}
 use Rattle.records.specs.declared.Lmode.the-variants.{Unl}
 use Rattle.records.specs.declared.Holder.the-variants.{Nobody}
 use Rattle.records.specs.Node.{Node}
-use Rattle.records.specs.declared.WriteId.{WriteId}
-use Rattle.records.specs.View.{blankId, nodeOf}
+use Rattle.records.specs.View.{nodeOf}
 use Rattle.stripe.specs.declared.nodes.Nodes.{Nodes}
 use Rattle.stripe.specs.declared.sets.RecentIds.{RecentIds}
 

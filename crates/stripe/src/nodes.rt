@@ -15,11 +15,11 @@ ghost use Rattle.stripe.specs.View.{recordAt, nodesOf};
 use crate::seen::Change;
 use crate::seen::Seen;
 use code::NodeSet;
-use records::Epoch;
+use entries::Epoch;
+use entries::WriteId;
 use records::Lmode;
 use records::NodeRecord;
 use records::Sizes;
-use records::WriteId;
 
 // Node j is item j - 1; a stripe of n nodes has the first n items.
 pub struct Nodes {

@@ -9,21 +9,22 @@ ghost use Rattle.code.specs.View.{nodeSetOf};
 ghost use Rattle.machine.specs.Stripe.{nodeAt};
 ghost use Rattle.basics.specs.Lists.{someOf};
 ghost use Rattle.machine.specs.Rebuild.{oldSomewhere, recentIds, atPosition, sameIds, allData, besides, largest, resumed, pickedSet, neededSize};
-ghost use Rattle.records.specs.Entries.{isRecent, isIn};
+ghost use Rattle.entries.specs.Entries.{isRecent, isIn};
+ghost use Rattle.entries.specs.View.{entryOf, entriesOf};
 ghost use Rattle.records.specs.Node.{isNorm};
-ghost use Rattle.records.specs.View.{entryOf, entriesOf, nodeOf};
+ghost use Rattle.records.specs.View.{nodeOf};
 ghost use Rattle.stripe.specs.Sets.{fitsBeside, isResumed, larger, Knows};
 ghost use Rattle.stripe.specs.View.{recentOf, nodesOf, Counted};
 use crate::nodes::NodeTest;
 use crate::nodes::Nodes;
 use code::NodeSet;
-use records::Entries;
-use records::Entry;
+use entries::Entries;
+use entries::Entry;
+use entries::WriteId;
+use entries::WriteNumber;
 use records::NodeRecord;
 use records::Opmode;
 use records::Sizes;
-use records::WriteId;
-use records::WriteNumber;
 
 // Recent ids of a node, without those that are old at a NORM node: the first count items.
 pub struct RecentIds {

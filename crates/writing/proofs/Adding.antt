@@ -10,20 +10,20 @@ use Rattle.blocks.specs.Blocks.{block, setBlock, addTimes}
 use Rattle.code.specs.Code.{coefficient}
 use Rattle.code.specs.Decode.{has, including}
 use Rattle.code.specs.View.{nodeSetOf}
+use Rattle.entries.specs.declared.Previous.{Previous}
+use Rattle.entries.specs.declared.Previous.the-variants.{Nothing, Id}
+use Rattle.entries.specs.Entries.{isListed, entryLimit}
 use Rattle.records.specs.declared.Sizes.{Sizes}
 use Rattle.records.specs.declared.Write.{Write}
 use Rattle.records.specs.declared.Hand.the-variants.{Empty, Holding}
 use Rattle.records.specs.declared.ClientRecord.{ClientRecord}
 use Rattle.records.specs.declared.NodeAnswer.{NodeAnswer}
 use Rattle.records.specs.declared.NodeAnswer.the-variants as NodeAnswer
-use Rattle.records.specs.declared.Previous.{Previous}
-use Rattle.records.specs.declared.Previous.the-variants.{Nothing, Id}
 use Rattle.records.specs.declared.Refusal.{Refusal}
 use Rattle.records.specs.declared.Refusal.the-variants.{OutOfPhase, WrongMode, OldEpoch, BeforePrevious, Full}
 use Rattle.records.specs.Client as Client
 use Rattle.records.specs.Client.{withHand, finishedWrite}
-use Rattle.records.specs.Entries.{isListed}
-use Rattle.records.specs.Node.{Node, entryLimit, takesAdd, entered}
+use Rattle.records.specs.Node.{Node, takesAdd, entered}
 use Rattle.records.specs.NodeSteps.{enterAnswer, afterPrevious, addAnswer}
 use Rattle.records.specs.View.{writeOf, clientOf}
 use Rattle.machine.specs.Stripe.{Outcome, Local, Added, Done, answered, refused, guard}

@@ -6,6 +6,7 @@ use mathlib.Core.Option.{some}
 use Prim.Native.Nat.{ℕ}
 use Rattle.code.specs.Decode.{has, excluding}
 use Rattle.code.specs.View.{nodeSetOf}
+use Rattle.entries.specs.Entries.{isRecentIn, previousRecent}
 use Rattle.records.specs.declared.CheckAnswer.{CheckAnswer}
 use Rattle.records.specs.declared.CheckAnswer.the-variants as Told
 use Rattle.records.specs.declared.ClientRecord.{ClientRecord}
@@ -13,7 +14,6 @@ use Rattle.records.specs.declared.Hand.the-variants.{Empty, Holding}
 use Rattle.records.specs.declared.Refusal.the-variants.{OutOfPhase}
 use Rattle.records.specs.declared.Write.{Write}
 use Rattle.records.specs.Client.{Client, withHand}
-use Rattle.records.specs.Entries.{isRecentIn, previousRecent}
 use Rattle.records.specs.NodeSteps.{checkAnswer}
 use Rattle.records.specs.View.{writeOf, clientOf}
 use Rattle.machine.specs.Stripe.{Outcome, Local, CheckInit, CheckGc, NoChange, answered, refused, guard}

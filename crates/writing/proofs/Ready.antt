@@ -9,18 +9,20 @@ use lib.Dec.{ltb}
 use lib.ListN.{length}
 use borrow.Author.Tests.{le-leb, leb-true, ltb-true}
 use Rattle.basics.proofs.Tests.{and-left, and-right}
+use Rattle.entries.specs.Entries.{idWithin}
+use Rattle.entries.specs.View.{idsOf}
 use Rattle.records.specs.declared.Sizes.{Sizes}
 use Rattle.records.specs.declared.Write.{Write}
 use Rattle.records.specs.declared.Hand.the-variants.{Holding}
 use Rattle.records.specs.declared.NodeRecord.{NodeRecord}
 use Rattle.records.specs.declared.ClientRecord.{ClientRecord}
 use Rattle.records.specs.Sizes.{sizesWithin, isNode, isRedundant, isClient}
-use Rattle.records.specs.Node.{idWithin, nodeWithin}
+use Rattle.records.specs.Node.{nodeWithin}
 use Rattle.records.specs.Client.{handWithin, clientWithin}
-use Rattle.records.specs.View.{idsOf, nodeOf, writeOf, clientOf}
+use Rattle.records.specs.View.{nodeOf, writeOf, clientOf}
 use Rattle.machine.specs.Stripe.{blocksFit}
 use Rattle.calls.specs.Answers.{local}
-use Rattle.records.proofs.Lists.{ids-count}
+use Rattle.entries.proofs.Lists.{ids-count}
 use Rattle.limits.proofs.Limits.{code-sizes, range-low, block-in}
 use Rattle.limits.proofs.Within.{lent-within}
 use Rattle.writing.specs.Adding.{addWithin, Ready}

@@ -8,13 +8,14 @@ use lib.Dec.{eqb, leb}
 use lib.ListN.{length}
 use borrow.Author.Tests.{le-leb, lt-leb, leb-true, eqb-true}
 use Rattle.basics.proofs.Tests.{and-left, and-right}
+use Rattle.entries.specs.Entries.{finishedLimit, writeLimit, entryLimit}
 use Rattle.records.specs.declared.NodeAnswer.{NodeAnswer}
 use Rattle.records.specs.declared.NodeAnswer.the-variants.{Accepted, Refused}
 use Rattle.records.specs.declared.Refusal.{Refusal}
 use Rattle.records.specs.declared.Refusal.the-variants.{WrongMode, Full, Exhausted}
 use Rattle.records.specs.declared.Sizes.{Sizes}
-use Rattle.records.specs.Client.{Client, finishedLimit, writeLimit, hasWrite}
-use Rattle.records.specs.Node.{Node, entryLimit, isFree, nodeWithin}
+use Rattle.records.specs.Client.{Client, hasWrite}
+use Rattle.records.specs.Node.{Node, isFree, nodeWithin}
 use Rattle.records.specs.NodeSteps.{refusing, swapAnswer}
 use Rattle.records.specs.Sizes.{sizesWithin, isPosition, isClient}
 use Rattle.machine.specs.Stripe.{Outcome, Local, refused, guard, blocksFit}

@@ -7,8 +7,8 @@ ghost use lib.Dec.{eqb, leb};
 ghost use lib.ListN.{length};
 ghost use Rattle.blocks.specs.Blocks.{block, setBlock, difference};
 ghost use Rattle.code.specs.Decode.{noNodes, including};
-ghost use Rattle.records.specs.Client.{writeLimit, began, hasWrite, clientWithin};
-ghost use Rattle.records.specs.Entries.{lastRecent};
+ghost use Rattle.entries.specs.Entries.{lastRecent, writeLimit};
+ghost use Rattle.records.specs.Client.{began, hasWrite, clientWithin};
 ghost use Rattle.records.specs.Node.{nodeWithin};
 ghost use Rattle.records.specs.Sizes.{sizesWithin, isPosition, isClient};
 ghost use Rattle.records.specs.View.{nodeOf, clientOf};
@@ -16,16 +16,16 @@ ghost use Rattle.machine.specs.Writing as Writing;
 ghost use Rattle.calls.specs.Answers.{Meets, local};
 use calls::Answer;
 use calls::AtNode;
+use entries::Ids;
+use entries::WriteId;
 use limits::at_node::are_records_within;
 use limits::tables::are_tables;
 use records::ClientRecord;
-use records::Ids;
 use records::NodeAnswer;
 use records::NodeRecord;
 use records::Refusal;
 use records::Sizes;
 use records::Write;
-use records::WriteId;
 
 // Whether a swap's sizes, records, tables and value are within the limits.
 fn is_within(

@@ -9,9 +9,9 @@ use lib.Dec.{leb}
 use borrow.Author.Tests.{leb-true, leb-false}
 use Rattle.code.specs.Decode.{NodeSet, has, size, lowest}
 use Rattle.code.proofs.NodeSets.{lowest-has}
-use Rattle.records.specs.declared.WriteId.{WriteId}
-use Rattle.records.specs.declared.Epoch.{Epoch}
-use Rattle.records.specs.Entries.{isRecentIn, isOldIn}
+use Rattle.entries.specs.declared.WriteId.{WriteId}
+use Rattle.entries.specs.declared.Epoch.{Epoch}
+use Rattle.entries.specs.Entries.{isRecentIn, isOldIn}
 use Rattle.records.specs.Node.{isInit, isNorm, isRecons}
 use Rattle.records.specs.Client.{Writing}
 use Rattle.basics.proofs.Updates.{upd, upd-same, upd-ind}

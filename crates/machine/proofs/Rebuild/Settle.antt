@@ -10,10 +10,10 @@ use native.Mathlib.Omega.{arith}
 use lib.Dec.{eqb, leb, ltb}
 use borrow.Author.Tests.{leb-true, leb-false, ltb-true, ltb-false, eqb-true, eq-eqb, ne-eqb}
 use Rattle.code.specs.Decode.{has, noNodes}
-use Rattle.records.specs.declared.WriteId.{WriteId}
+use Rattle.entries.specs.declared.WriteId.{WriteId}
+use Rattle.entries.specs.declared.Epoch.{Epoch}
+use Rattle.entries.specs.Entries.{isListed}
 use Rattle.records.specs.declared.Opmode.the-variants.{Norm}
-use Rattle.records.specs.declared.Epoch.{Epoch}
-use Rattle.records.specs.Entries.{isListed}
 use Rattle.records.specs.Node.{isInit, isNorm, isRecons}
 use Rattle.records.specs.Client.{Rebuild, Settling, Unlocking}
 use Rattle.basics.proofs.Updates.{upd, upd-same, upd-other, upd-ind}

@@ -8,9 +8,9 @@ use native.Mathlib.Omega.{arith}
 use lib.Dec.{leb}
 use borrow.Author.Tests.{leb-true, leb-false}
 use Rattle.code.specs.Decode.{NodeSet, has}
+use Rattle.entries.specs.declared.Epoch.{Epoch}
 use Rattle.records.specs.declared.Opmode.{Opmode}
 use Rattle.records.specs.declared.Opmode.the-variants.{Recons}
-use Rattle.records.specs.declared.Epoch.{Epoch}
 use Rattle.records.specs.Node.{isInit, isNorm, isRecons}
 use Rattle.records.specs.Client.{Write, Rebuild, Writing, Settling}
 use Rattle.basics.proofs.Updates.{upd, upd-same, upd-other, upd-ind}

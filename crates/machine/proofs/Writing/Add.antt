@@ -7,10 +7,10 @@ use mathlib.Core.Option.{Option, none, some}
 use Prim.Native.Nat.{ℕ, zero, suc, _≤_, _<_}
 use native.Mathlib.Omega.{arith}
 use Rattle.code.specs.Decode.{has, including}
-use Rattle.records.specs.declared.WriteId.{WriteId}
-use Rattle.records.specs.declared.Previous.{Previous}
-use Rattle.records.specs.declared.Previous.the-variants.{Nothing, Id}
-use Rattle.records.specs.Entries.{Entry, sameId, isListed, isIn, enter}
+use Rattle.entries.specs.declared.WriteId.{WriteId}
+use Rattle.entries.specs.declared.Previous.{Previous}
+use Rattle.entries.specs.declared.Previous.the-variants.{Nothing, Id}
+use Rattle.entries.specs.Entries.{Entry, sameId, isListed, isIn, enter}
 use Rattle.records.specs.Node.{isInit, isNorm}
 use Rattle.records.specs.Client.{Write}
 use Rattle.machine.specs.Writing.{withDone}

@@ -7,8 +7,8 @@ use Prim.Native.Nat.{ℕ, zero, suc, _≤_, _<_}
 use native.Mathlib.Decide.{decLt}
 use native.Mathlib.Omega.{arith}
 use Rattle.code.specs.Decode.{NodeSet, has, excluding}
-use Rattle.records.specs.declared.Previous.the-variants.{Id}
-use Rattle.records.specs.Entries.{isRecentIn, previousRecent}
+use Rattle.entries.specs.declared.Previous.the-variants.{Id}
+use Rattle.entries.specs.Entries.{isRecentIn, previousRecent}
 use Rattle.records.specs.Node.{isNorm}
 use Rattle.records.specs.Client.{Write}
 use Rattle.machine.specs.Writing.{withDone, forgetting}

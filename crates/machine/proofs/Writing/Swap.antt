@@ -7,9 +7,9 @@ use Prim.Native.Nat.{ℕ, suc, _≤_, _<_}
 use native.Mathlib.Nat.{le-trans}
 use native.Mathlib.Omega.{arith}
 use Rattle.code.specs.Decode.{has, noNodes, including}
-use Rattle.records.specs.declared.WriteId.{WriteId}
-use Rattle.records.specs.declared.Previous.the-variants.{Id}
-use Rattle.records.specs.Entries.{isOldIn, isIn, lastRecent, enter}
+use Rattle.entries.specs.declared.WriteId.{WriteId}
+use Rattle.entries.specs.declared.Previous.the-variants.{Id}
+use Rattle.entries.specs.Entries.{isOldIn, isIn, lastRecent, enter}
 use Rattle.records.specs.Node.{isInit, isNorm}
 use Rattle.records.specs.Client.{Write}
 use Rattle.basics.proofs.Updates.{upd, upd-same, upd-other, upd-ind}

@@ -6,10 +6,10 @@ use mathlib.Core.List.{List, []}
 use Prim.Native.Nat.{ℕ, zero, suc, _≤_}
 use native.Mathlib.Nat.{le-trans}
 use native.Mathlib.Omega.{arith}
-use Rattle.records.specs.declared.WriteId.{WriteId}
+use Rattle.entries.specs.declared.WriteId.{WriteId}
+use Rattle.entries.specs.declared.Previous.the-variants.{Id}
+use Rattle.entries.specs.Entries.{Entry, isListed, isRecentIn, isOldIn, isIn, lastRecent, discard, markOld}
 use Rattle.records.specs.declared.Opmode.{Opmode}
-use Rattle.records.specs.declared.Previous.the-variants.{Id}
-use Rattle.records.specs.Entries.{Entry, isListed, isRecentIn, isOldIn, isIn, lastRecent, discard, markOld}
 use Rattle.basics.proofs.Updates.{upd, upd-ind}
 use Rattle.basics.proofs.Tests.{clash, is-false, bool-cases}
 use Rattle.machine.proofs.EntryLaws.{in-nil, listed-mark, recent-mark, old-mark, last-mark, listed-discard, recent-discard, old-discard, last-discard}

@@ -1,6 +1,6 @@
 -- The tests, in order. Assumes nothing.
 use borrow.Author.Needs.{needs}
-use Rattle.records.proofs.Tests.{tests}
+use Rattle.entries.proofs.Tests.{tests}
 use Rattle.limits.proofs.at_node.are_records_within.Statement.{statement}
 use Rattle.limits.proofs.at_node.are_records_within.Tie as tie
 

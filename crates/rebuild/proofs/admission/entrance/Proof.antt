@@ -1,6 +1,6 @@
 -- The tests, in order. Assumes nothing.
 use borrow.Author.Needs.{needs}
-use Rattle.records.proofs.Tests.{tests}
+use Rattle.entries.proofs.Tests.{tests}
 use Rattle.rebuild.proofs.admission.entrance.Statement.{statement}
 use Rattle.rebuild.proofs.admission.entrance.Tie as tie
 

@@ -1,8 +1,8 @@
 -- The tests, in order. Assumes nothing.
 use native.Mathlib.Omega.{arith}
 use borrow.Author.Needs.{needs}
+use Rattle.entries.proofs.Tests.{tests}
 use Rattle.records.proofs.Limits.{nodes-few}
-use Rattle.records.proofs.Tests.{tests}
 use Rattle.records.proofs.ClientRecord.are_lists_within.Statement.{statement}
 use Rattle.records.proofs.ClientRecord.are_lists_within.Tie as tie
 

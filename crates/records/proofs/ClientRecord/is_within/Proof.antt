@@ -1,7 +1,7 @@
 -- The tests, in order. Assumes nothing.
 use borrow.Author.Needs.{needs}
+use Rattle.entries.proofs.Tests.{same-as, tests}
 use Rattle.records.proofs.Limits.{client-tests}
-use Rattle.records.proofs.Tests.{same-as, tests}
 use Rattle.records.proofs.ClientRecord.is_within.Statement.{statement}
 use Rattle.records.proofs.ClientRecord.is_within.Tie as tie
 

@@ -1,6 +1,6 @@
 -- By the test. Assumes nothing.
 use borrow.Author.Needs.{needs}
-use Rattle.records.proofs.Tests.{tests}
+use Rattle.entries.proofs.Tests.{tests}
 use Rattle.records.proofs.ClientRecord.sweep_node.Statement.{statement}
 use Rattle.records.proofs.ClientRecord.sweep_node.Tie as tie
 

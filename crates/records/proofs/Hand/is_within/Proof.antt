@@ -1,6 +1,6 @@
 -- By cases of the hand. Assumes nothing.
 use borrow.Author.Needs.{needs}
-use Rattle.records.proofs.Lists.{ids-count}
+use Rattle.entries.proofs.Lists.{ids-count}
 use Rattle.records.proofs.Hand.is_within.Statement.{statement}
 use Rattle.records.proofs.Hand.is_within.Tie as tie
 

@@ -1,7 +1,7 @@
 -- The tests, in order; then as entering after the previous id answers. Assumes nothing.
 use borrow.Author.Needs.{needs}
+use Rattle.entries.proofs.Tests.{tests}
 use Rattle.records.proofs.Steps.{meets-refused, meets-as}
-use Rattle.records.proofs.Tests.{tests}
 use Rattle.records.proofs.NodeRecord.add.Statement.{statement}
 use Rattle.records.proofs.NodeRecord.add.Tie as tie
 

@@ -1,8 +1,8 @@
 -- Refused at 16 entries, by the count. Assumes nothing.
 use borrow.Author.Tests.{le-leb, lt-leb}
 use borrow.Author.Needs.{needs}
+use Rattle.entries.proofs.Lists.{entries-count}
 use Rattle.records.proofs.Steps.{meets-refused, meets-accepted}
-use Rattle.records.proofs.Lists.{entries-count}
 use Rattle.records.proofs.NodeRecord.enter.Statement.{statement}
 use Rattle.records.proofs.NodeRecord.enter.Tie as tie
 

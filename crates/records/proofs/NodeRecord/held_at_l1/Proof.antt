@@ -1,6 +1,6 @@
 -- The two tests, in order. Assumes nothing.
 use borrow.Author.Needs.{needs}
-use Rattle.records.proofs.Tests.{tests}
+use Rattle.entries.proofs.Tests.{tests}
 use Rattle.records.proofs.NodeRecord.held_at_l1.Statement.{statement}
 use Rattle.records.proofs.NodeRecord.held_at_l1.Tie as tie
 

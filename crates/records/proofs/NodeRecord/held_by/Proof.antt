@@ -1,6 +1,6 @@
 -- The two tests, in order. Assumes nothing.
 use borrow.Author.Needs.{needs}
-use Rattle.records.proofs.Tests.{tests}
+use Rattle.entries.proofs.Tests.{tests}
 use Rattle.records.proofs.NodeRecord.held_by.Statement.{statement}
 use Rattle.records.proofs.NodeRecord.held_by.Tie as tie
 

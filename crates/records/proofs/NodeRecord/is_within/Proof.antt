@@ -1,7 +1,7 @@
 -- The tests, in order. Assumes nothing.
 use borrow.Author.Needs.{needs}
+use Rattle.entries.proofs.Tests.{tests}
 use Rattle.records.specs.Node.{nodeWithin}
-use Rattle.records.proofs.Tests.{tests}
 use Rattle.records.proofs.NodeRecord.is_within.Statement.{statement}
 use Rattle.records.proofs.NodeRecord.is_within.Tie as tie
 

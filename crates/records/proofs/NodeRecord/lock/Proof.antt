@@ -1,7 +1,7 @@
 -- Refused at L0 and L1. Assumes nothing.
 use borrow.Author.Needs.{needs}
+use Rattle.entries.proofs.Tests.{tests}
 use Rattle.records.proofs.Steps.{meets-refused, meets-accepted}
-use Rattle.records.proofs.Tests.{tests}
 use Rattle.records.proofs.NodeRecord.lock.Statement.{statement}
 use Rattle.records.proofs.NodeRecord.lock.Tie as tie
 

@@ -1,7 +1,7 @@
 -- Refused where the modes are wrong. Assumes nothing.
 use borrow.Author.Needs.{needs}
+use Rattle.entries.proofs.Tests.{tests}
 use Rattle.records.proofs.Steps.{meets-refused, meets-accepted}
-use Rattle.records.proofs.Tests.{tests}
 use Rattle.records.proofs.NodeRecord.mark.Statement.{statement}
 use Rattle.records.proofs.NodeRecord.mark.Tie as tie
 

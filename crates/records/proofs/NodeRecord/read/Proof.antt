@@ -1,8 +1,8 @@
 -- Refused if the modes are not those needed. Assumes nothing.
 use mathlib.Core.Path.{refl}
 use borrow.Author.Needs.{needs}
+use Rattle.entries.proofs.Tests.{tests}
 use Rattle.records.proofs.Steps.{meets-refused, meets-accepted}
-use Rattle.records.proofs.Tests.{tests}
 use Rattle.records.proofs.NodeRecord.read.Statement.{statement}
 use Rattle.records.proofs.NodeRecord.read.Tie as tie
 

@@ -1,7 +1,7 @@
 -- Refused where the modes are wrong; else as entering answers. Assumes nothing.
 use borrow.Author.Needs.{needs}
+use Rattle.entries.proofs.Tests.{tests}
 use Rattle.records.proofs.Steps.{meets-refused, meets-as}
-use Rattle.records.proofs.Tests.{tests}
 use Rattle.records.proofs.NodeRecord.swap.Statement.{statement}
 use Rattle.records.proofs.NodeRecord.swap.Tie as tie
 

@@ -1,7 +1,7 @@
 -- Refused if the node is RECONS, then if it is not held. Assumes nothing.
 use borrow.Author.Needs.{needs}
+use Rattle.entries.proofs.Tests.{tests}
 use Rattle.records.proofs.Steps.{meets-refused, meets-accepted}
-use Rattle.records.proofs.Tests.{tests}
 use Rattle.records.proofs.NodeRecord.weaken.Statement.{statement}
 use Rattle.records.proofs.NodeRecord.weaken.Tie as tie
 

@@ -1,8 +1,8 @@
 -- By cases of the phase. Assumes nothing.
 use mathlib.Core.Path.{_∙_}
 use borrow.Author.Needs.{needs}
+use Rattle.entries.proofs.Tests.{tests}
 use Rattle.records.proofs.Clients.{locking-within}
-use Rattle.records.proofs.Tests.{tests}
 use Rattle.records.proofs.Phase.is_within.Statement.{statement}
 use Rattle.records.proofs.Phase.is_within.Tie as tie
 

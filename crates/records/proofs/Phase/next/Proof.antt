@@ -1,6 +1,6 @@
 -- By cases of the phase. Assumes nothing.
 use borrow.Author.Needs.{needs}
-use Rattle.records.proofs.Tests.{tests}
+use Rattle.entries.proofs.Tests.{tests}
 use Rattle.records.proofs.Phase.next.Statement.{statement}
 use Rattle.records.proofs.Phase.next.Tie as tie
 

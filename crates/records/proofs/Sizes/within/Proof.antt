@@ -3,8 +3,8 @@ use mathlib.Core.Path.{sym, _∙_}
 use native.Mathlib.Omega.{arith}
 use borrow.Author.Needs.{needs}
 use Rattle.code.proofs.Sizes.{sizes-of}
+use Rattle.entries.proofs.Tests.{tests}
 use Rattle.records.specs.Sizes.{sizesWithin}
-use Rattle.records.proofs.Tests.{tests}
 use Rattle.records.proofs.Sizes.within.Statement.{statement}
 use Rattle.records.proofs.Sizes.within.Tie as tie
 

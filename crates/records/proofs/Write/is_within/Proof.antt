@@ -1,8 +1,8 @@
 -- The tests, in order; the count is the list's length. Assumes nothing.
 use borrow.Author.Tests.{le-leb}
 use borrow.Author.Needs.{needs}
-use Rattle.records.proofs.Lists.{ids-count}
-use Rattle.records.proofs.Tests.{tests}
+use Rattle.entries.proofs.Lists.{ids-count}
+use Rattle.entries.proofs.Tests.{tests}
 use Rattle.records.proofs.Write.is_within.Statement.{statement}
 use Rattle.records.proofs.Write.is_within.Tie as tie
 

@@ -1,5 +1,5 @@
 -- The two tests, in order. Assumes nothing.
-use Rattle.records.proofs.Tests.{tests}
+use Rattle.entries.proofs.Tests.{tests}
 use Rattle.records.proofs.ranges.is_between.Statement.{statement}
 use Rattle.records.proofs.ranges.is_between.Tie as tie
 

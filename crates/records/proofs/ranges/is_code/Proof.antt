@@ -1,7 +1,7 @@
 -- The tests, in order. Assumes nothing.
 use borrow.Author.Needs.{needs}
 use Rattle.code.specs.Code.{codeSizes}
-use Rattle.records.proofs.Tests.{tests}
+use Rattle.entries.proofs.Tests.{tests}
 use Rattle.records.proofs.ranges.is_code.Statement.{statement}
 use Rattle.records.proofs.ranges.is_code.Tie as tie
 

@@ -1,6 +1,6 @@
 -- By the test. Assumes nothing.
 use borrow.Author.Needs.{needs}
-use Rattle.records.proofs.Tests.{tests}
+use Rattle.entries.proofs.Tests.{tests}
 use Rattle.stripe.proofs.nodes.count_one.Statement.{statement}
 use Rattle.stripe.proofs.nodes.count_one.Tie as tie
 

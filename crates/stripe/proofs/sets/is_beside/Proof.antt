@@ -1,6 +1,6 @@
 -- By the tests. Assumes nothing.
 use borrow.Author.Needs.{needs}
-use Rattle.records.proofs.Tests.{tests}
+use Rattle.entries.proofs.Tests.{tests}
 use Rattle.stripe.proofs.sets.is_beside.Statement.{statement}
 use Rattle.stripe.proofs.sets.is_beside.Tie as tie
 

@@ -1,6 +1,6 @@
 -- The two tests, in order. Assumes nothing.
 use borrow.Author.Needs.{needs}
-use Rattle.records.proofs.Tests.{tests}
+use Rattle.entries.proofs.Tests.{tests}
 use Rattle.writing.proofs.adds.is_complete.Statement.{statement}
 use Rattle.writing.proofs.adds.is_complete.Tie as tie
 

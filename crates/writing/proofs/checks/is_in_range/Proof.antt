@@ -1,6 +1,6 @@
 -- The two tests, in order. Assumes nothing.
 use borrow.Author.Needs.{needs}
-use Rattle.records.proofs.Tests.{tests}
+use Rattle.entries.proofs.Tests.{tests}
 use Rattle.writing.proofs.checks.is_in_range.Statement.{statement}
 use Rattle.writing.proofs.checks.is_in_range.Tie as tie
 

@@ -1,8 +1,8 @@
 -- The tests of limits, range and phase, in order; then by the node's answer and the client's own limits. Assumes nothing.
 use mathlib.Core.Path.{sym, _∙_}
 use borrow.Author.Needs.{needs}
+use Rattle.entries.proofs.Lists.{ids-count, entries-count}
 use Rattle.records.specs.View.{nodeOf, clientOf}
-use Rattle.records.proofs.Lists.{ids-count, entries-count}
 use Rattle.machine.specs.Writing as Writing
 use Rattle.calls.specs.Answers.{local}
 use Rattle.limits.proofs.Returns.{holds, guards, refused-at-node}

@@ -2,7 +2,7 @@
 use mathlib.Core.Path.{ap}
 use mathlib.Core.Bool.{not}
 use borrow.Author.Needs.{needs}
-use Rattle.records.proofs.Tests.{tests}
+use Rattle.entries.proofs.Tests.{tests}
 use Rattle.stripe.proofs.nodes.NodeTest.is_passed.Statement.{statement}
 use Rattle.stripe.proofs.nodes.NodeTest.is_passed.Tie as tie
 

@@ -3,8 +3,8 @@ use Prim.Native.Nat.{_-_}
 use native.Mathlib.Omega.{arith}
 use borrow.Author.Needs.{needs}
 use Rattle.basics.specs.Lists.{someOf}
+use Rattle.entries.proofs.Lists.{Searched, search-start, search-on, search-hit, search-end}
 use Rattle.records.specs.View.{nodeOf}
-use Rattle.records.proofs.Lists.{Searched, search-start, search-on, search-hit, search-end}
 use Rattle.stripe.specs.Nodes.{passes}
 use Rattle.stripe.specs.View.{recordAt}
 use Rattle.stripe.proofs.NodeLists.{some-search}

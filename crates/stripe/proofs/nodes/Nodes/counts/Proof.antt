@@ -2,7 +2,7 @@
 use mathlib.Core.Path.{ap}
 use mathlib.Core.Bool.{not}
 use borrow.Author.Needs.{needs}
-use Rattle.records.proofs.Tests.{tests, and-on}
+use Rattle.entries.proofs.Tests.{tests, and-on}
 use Rattle.stripe.proofs.nodes.Nodes.counts.Statement.{statement}
 use Rattle.stripe.proofs.nodes.Nodes.counts.Tie as tie
 

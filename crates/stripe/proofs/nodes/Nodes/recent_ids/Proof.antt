@@ -4,7 +4,7 @@ use native.Mathlib.Omega.{arith}
 use lib.ListN.{getD}
 use borrow.Author.Needs.{needs}
 use Rattle.machine.specs.Rebuild.{recentIds}
-use Rattle.records.specs.View.{entryOf, blankEntry}
+use Rattle.entries.specs.View.{entryOf, blankEntry}
 use Rattle.stripe.specs.View.{nodesOf}
 use Rattle.stripe.proofs.IdLists.{Kept, recent-keep, keep-start, keep-on, keep-end}
 use Rattle.stripe.proofs.nodes.Nodes.recent_ids.Statement.{statement}

@@ -6,10 +6,10 @@ use borrow.Author.Needs.{needs}
 use Rattle.basics.specs.Lists.{listOf}
 use Rattle.basics.proofs.Tests.{clash}
 use borrow.Author.Tests.{not-true, not-false}
+use Rattle.entries.proofs.Lists.{listOf-more}
 use Rattle.records.specs.Node.{Node}
 use Rattle.records.specs.View.{nodeOf}
 use Rattle.records.proofs.Limits.{nodes-few}
-use Rattle.records.proofs.Lists.{listOf-more}
 use Rattle.stripe.specs.Seen.{seenWith}
 use Rattle.stripe.specs.View.{recordAt, nodesOf}
 use Rattle.stripe.proofs.Loops.{Reached, reach-start, reach-on, reach-end}

@@ -6,9 +6,9 @@ use native.Mathlib.Omega.{arith}
 use lib.ListN.{getD}
 use borrow.Author.Needs.{needs}
 use Rattle.basics.specs.Lists.{someOf}
-use Rattle.records.specs.Entries.{isIn}
-use Rattle.records.specs.View.{blankId}
-use Rattle.records.proofs.Lists.{Searched, search-start, search-on, search-hit, search-end}
+use Rattle.entries.specs.Entries.{isIn}
+use Rattle.entries.specs.View.{blankId}
+use Rattle.entries.proofs.Lists.{Searched, search-start, search-on, search-hit, search-end}
 use Rattle.stripe.specs.View.{recentOf}
 use Rattle.stripe.proofs.NodeLists.{some-search}
 use Rattle.stripe.proofs.sets.RecentIds.any_besides.Statement.{statement}

@@ -4,7 +4,7 @@ use native.Mathlib.Omega.{arith}
 use lib.ListN.{getD}
 use borrow.Author.Needs.{needs}
 use Rattle.machine.specs.Rebuild.{atPosition}
-use Rattle.records.specs.View.{blankId}
+use Rattle.entries.specs.View.{blankId}
 use Rattle.stripe.proofs.IdLists.{Kept, position-keep, keep-start, keep-on, keep-end}
 use Rattle.stripe.proofs.sets.RecentIds.at_position.Statement.{statement}
 use Rattle.stripe.proofs.sets.RecentIds.at_position.Tie as tie

@@ -3,9 +3,9 @@ use Prim.Native.Nat.{_-_}
 use native.Mathlib.Omega.{arith}
 use lib.ListN.{getD}
 use borrow.Author.Needs.{needs}
-use Rattle.records.specs.Entries.{isIn}
-use Rattle.records.specs.View.{blankId}
-use Rattle.records.proofs.Lists.{Searched, search-start, search-on, search-hit, search-end}
+use Rattle.entries.specs.Entries.{isIn}
+use Rattle.entries.specs.View.{blankId}
+use Rattle.entries.proofs.Lists.{Searched, search-start, search-on, search-hit, search-end}
 use Rattle.stripe.proofs.IdLists.{ids-search}
 use Rattle.stripe.proofs.sets.RecentIds.has.Statement.{statement}
 use Rattle.stripe.proofs.sets.RecentIds.has.Tie as tie

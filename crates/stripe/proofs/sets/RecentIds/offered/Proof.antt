@@ -2,7 +2,7 @@
 use mathlib.Core.Path.{sym}
 use mathlib.Core.List.{append-nil}
 use borrow.Author.Needs.{needs}
-use Rattle.records.proofs.Lists.{below-array, listOf-push}
+use Rattle.entries.proofs.Lists.{below-array, listOf-push}
 use Rattle.stripe.specs.View.{recentOf}
 use Rattle.stripe.proofs.sets.RecentIds.offered.Statement.{statement}
 use Rattle.stripe.proofs.sets.RecentIds.offered.Tie as tie

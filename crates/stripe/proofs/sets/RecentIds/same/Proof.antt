@@ -1,6 +1,6 @@
 -- Each list is in the other. Assumes nothing.
 use borrow.Author.Needs.{needs}
-use Rattle.records.proofs.Tests.{and-on, and-off}
+use Rattle.entries.proofs.Tests.{and-on, and-off}
 use Rattle.stripe.proofs.NodeLists.{none-fails}
 use Rattle.stripe.proofs.sets.RecentIds.same.Statement.{statement}
 use Rattle.stripe.proofs.sets.RecentIds.same.Tie as tie

@@ -1,0 +1,32 @@
+-- The first i entries are older. Assumes nothing.
+use mathlib.Core.Path.{_≡_, refl}
+use Prim.Native.Nat.{_-_}
+use native.Mathlib.Omega.{arith}
+use lib.ListN.{length}
+use borrow.Author.Needs.{needs}
+use Rattle.entries.proofs.Lists.{length-array, Aged, age-start, age-on, age-end}
+use Rattle.entries.proofs.Entries.older.Statement.{statement}
+use Rattle.entries.proofs.Entries.older.Tie as tie
+
+abbrev Inv-loop : tie.InvT-loop
+Inv-loop n items₀ i₀ items i = Aged items₀ items i n
+
+abbrev μ-loop : tie.MeasureT-loop
+μ-loop n items₀ i₀ items i = n - i
+
+pub older-spec : {M : Type 1} → statement M
+older-spec =
+    tie.close
+    (tie.spec
+    Inv-loop
+    μ-loop
+    (λ c. let l : length (c .before .args .self .items) ≡ 16 = search length-array in age-start (omega (arith, l)))
+    (λ c. search needs)
+    (λ c. search needs)
+    (λ c κs. search needs)
+    (λ c. search needs)
+    (λ c. search needs)
+    (λ c. search needs)
+    (λ c. search needs)
+    (λ c. age-on (c .before .before .before .loop .inv) (omega arith) (c .older .ensures))
+    (λ c. (refl, age-end (c .before .loop .inv) (omega arith))))

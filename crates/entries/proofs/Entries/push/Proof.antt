@@ -1,0 +1,15 @@
+-- A store after the last. Assumes nothing.
+use borrow.Author.Needs.{needs}
+use Rattle.entries.specs.View.{entryOf}
+use Rattle.entries.proofs.Lists.{below-array, listOf-push}
+use Rattle.entries.proofs.Entries.push.Statement.{statement}
+use Rattle.entries.proofs.Entries.push.Tie as tie
+
+pub push-spec : {M : Type 1} → statement M
+push-spec =
+    tie.close
+    (tie.spec
+    (λ c. search needs)
+    (λ c. search needs)
+    (λ c. search needs)
+    (λ c. listOf-push entryOf (c .before .args .self .items) (c .before .args .self .count) _ _ (search below-array)))
