@@ -93,9 +93,8 @@ module _ (z : Sizes) (L : Laws (ops z)) (h : Ledger Block) (s : Stripe) (g : Goo
     pub stop-kept : Kept z h stop (step z stop s)
     unfolding step Failure.stop
     stop-kept =
-        begins z L h s g f c (KeptWhole z h s g f stop c) (whole-refused z h s g f stop c) (outOfLimits z (whole c s))
-        (λ p. answered Accepted (record { nodes = expiredNodes; client = stopped client; blocks = s .blocks; spare = s .spare })) (λ e. e)
-        (λ p i. put-kept z L h s g f c i stop Accepted expiredNodes (s .blocks) (s .spare) (stopped client)
+        begins z L h s g f c (KeptWhole z h s g f stop c) (whole-refused z h s g f stop c) (outOfLimits z (whole c s)) _ (λ e. e)
+        (λ i. put-kept z L h s g f c i stop Accepted expiredNodes (s .blocks) (s .spare) (stopped client)
         (other-nodes z L h s g f c (length-map (s .nodes) (expiredFor c) ∙ f .nodes)) (Columns.stopped (ops z) c C)
         (ap (λ D. withClient D c (stopped client))
         (relock-columns z L h s g f c expiredNodes (λ j. expired c (C .lock j)) (expired-each (s .nodes) c (i .low)))

@@ -8,7 +8,7 @@ use native.Mathlib.Numerals.{add-one}
 use native.Mathlib.Omega.{arith}
 use lib.Dec.{eqb, leb, ltb}
 use lib.ListN.{length, length-map}
-use borrow.Author.Tests.{leb-true, ltb-true, ltb-false, eqb-true, not-false}
+use borrow.Author.Tests.{leb-true, ltb-true, ltb-false, eqb-true, not-true, not-false}
 use Rattle.basics.proofs.Tests.{and-left, and-right}
 use Rattle.blocks.specs.Blocks.{block, setBlock, Bytes}
 use Rattle.code.specs.Decode.{NodeSet, size, recoveredTable}
@@ -24,13 +24,14 @@ use Rattle.records.specs.Sizes.{sizesWithin, isNode, isClient}
 use Rattle.records.specs.Node.{Node, failedNode, withLmode, expiredFor, lockedBy, weakenedBy}
 use Rattle.records.specs.Node as Node
 use Rattle.records.specs.Client as Records
-use Rattle.records.specs.Client.{Rebuild, NoRebuild, Locking, Picking, Writing, Settling, Unlocking, hasRebuild, withRebuild, unlOrExp, rebuildWithin, clientWithin}
+use Rattle.records.specs.Client.{Rebuild, NoRebuild, Locking, Picking, Writing, Settling, Unlocking, withRebuild, remembered, nextNode, nextRebuild, unlOrExp}
+use Rattle.records.specs.Client.{rebuildWithin, clientWithin}
 use Rattle.machine.specs.Stripe.{Stripe, replacing, Answer, Accepted, Rebuilt, Refused, number, Outcome, Whole, answered, refused, guard, nodeAt, clientAt, whole, nodesFit}
 use Rattle.basics.specs.Lists.{setAt, everyOf}
 use Rattle.machine.specs.Calls.{Call, step}
 use Rattle.machine.specs.Calls as Calls
 use Rattle.machine.specs.Rebuild as Rebuild
-use Rattle.machine.specs.Rebuild.{advanced, holding, outOfLimits, restored, someRecons, pickedSet, countInit, neededSize, largestEpoch}
+use Rattle.machine.specs.Rebuild.{locks, phaseOf, setIn, epochIn, outOf, isWeakened, advanced, holding, outOfLimits, restored, someRecons, pickedSet, countInit, neededSize, largestEpoch}
 use Rattle.basics.proofs.Updates.{upd}
 use Rattle.basics.proofs.Tests.{clash, or-one, or-none, cond-ind}
 use Rattle.machine.proofs.Columns.{Ops, Columns, Lock, L0, heldBy, setBlocks, setLocks, setPhases}
@@ -39,6 +40,7 @@ use Rattle.machine.proofs.Ledger.{Ledger, note}
 use Rattle.machine.proofs.Invariant.{Laws, IsNode, Good}
 use Rattle.machine.proofs.Bytes.{Block, blockOf, ops}
 use Rattle.machine.proofs.View.{columns, lockOf, withNode, withClient, withNodes, put-node, put-client, upd-keep, setAt-length, held-is, l1-is, locked-is, exp-is}
+use Rattle.machine.proofs.InPhase.{picking-is, writing-is, settling-is, unlocking-is}
 use Rattle.machine.proofs.Kept.{Fits, Kept, KeptWhole, entry, refusal-number, whole-refused}
 use Rattle.machine.proofs.Tables.{put-block, length-put, length-block, bytes-put, bytes-block, block-view, length-rebuilt, bytes-rebuilt, rebuilt-blocks}
 use Rattle.basics.proofs.Lists.{every-at, none-at, length-from}
@@ -75,8 +77,8 @@ module _ (z : Sizes) (L : Laws (ops z)) (h : Ledger Block) (s : Stripe) (g : Goo
   refuses : (x : Call) (why : Refusal) → After x (refused why w)
   refuses x = whole-refused z h s g f x c
 
-  ---- the tests before that of the phase
-  -- what they have shown, where c is in phase p
+  ---- the tests that a call begins with
+  -- what they have shown, where c's rebuild is p
   pub record In (p : Rebuild) : Type 0 where
     pub phase : C .phase c ≡ p
     pub low : 1 ≤ c
@@ -89,17 +91,24 @@ module _ (z : Sizes) (L : Laws (ops z)) (h : Ledger Block) (s : Stripe) (g : Goo
     tested true why rest k = refusal why
     tested false why rest k = k refl
 
-    pub begins : (test : Bool) (rest : Rebuild → Outcome Whole) → (test ≡ false → outOfLimits z w ≡ false) → ((p : Rebuild) → In p → P (rest p)) →
-        P (guard test OutOfLimits w (guard (not (isClient z c)) OutOfRange w (rest (C .phase c))))
+    pub begins : (test : Bool) (rest : Outcome Whole) → (test ≡ false → outOfLimits z w ≡ false) → (In (C .phase c) → P rest) →
+        P (guard test OutOfLimits w (guard (not (isClient z c)) OutOfRange w rest))
     unfolding clientWithin
     begins test rest limits k =
-        tested test OutOfLimits (guard (not (isClient z c)) OutOfRange w (rest (C .phase c)))
-        (λ r1. tested (not (isClient z c)) OutOfRange (rest (C .phase c))
+        tested test OutOfLimits (guard (not (isClient z c)) OutOfRange w rest)
+        (λ r1. tested (not (isClient z c)) OutOfRange rest
         (λ r2.
         let fit : (sizesWithin z && (nodesFit z N && clientWithin z client)) ≡ true = not-false _ (limits r1) in
         let number : isClient z c ≡ true = not-false _ r2 in
-        k (C .phase c)
-        (record { phase = refl; low = search (and-left, leb-true); high = search (and-right, leb-true); within = search (and-left, and-right) })))
+        k (record { phase = refl; low = search (and-left, leb-true); high = search (and-right, leb-true); within = search (and-left, and-right) })))
+
+    -- and that of the phase: the rebuild then has the form of that phase
+    pub begins-in : (test : Bool) (phase : ℕ) (form : Rebuild → Rebuild) (rest : Outcome Whole) → (test ≡ false → outOfLimits z w ≡ false) →
+        ((p : Rebuild) → eqb (phaseOf p) phase ≡ true → p ≡ form p) → (In (form (C .phase c)) → P rest) →
+        P (guard test OutOfLimits w (guard (not (isClient z c)) OutOfRange w (guard (outOf phase w) OutOfPhase w rest)))
+    begins-in test phase form rest limits is k =
+        begins test (guard (outOf phase w) OutOfPhase w rest) limits
+        (λ i. tested (outOf phase w) OutOfPhase rest (λ r3. k (subst In (is (C .phase c) (not-false _ r3)) i)))
 
   node : (j : ℕ) → isNode z j ≡ true → IsNode O j
   node j e = record { low = search (and-left, leb-true); high = search (and-right, leb-true) }
@@ -226,19 +235,18 @@ module _ (z : Sizes) (L : Laws (ops z)) (h : Ledger Block) (s : Stripe) (g : Goo
       x = at j
 
   pub lock-kept : Kept z h (Calls.lock c) (step z (Calls.lock c) s)
-  unfolding step Rebuild.lock Rebuild.lockIn unlOrExp
-  lock-kept = begins (After (Calls.lock c)) (refuses (Calls.lock c)) (outOfLimits z w) (λ p. Rebuild.lockIn z c p w) (λ e. e) go
+  unfolding step Rebuild.lock unlOrExp
+  lock-kept =
+      begins (After (Calls.lock c)) (refuses (Calls.lock c)) (outOfLimits z w) _ (λ e. e)
+      (λ i. tested (After (Calls.lock c)) (refuses (Calls.lock c)) (outOf locks w) _ _ (λ r3. go (C .phase c) (not-false _ r3) i))
     where
-      out : After (Calls.lock c) (refused OutOfPhase w)
-      out = refuses (Calls.lock c) OutOfPhase
-
-      go : (p : Rebuild) → In p → After (Calls.lock c) (Rebuild.lockIn z c p w)
-      go NoRebuild i = next-lock i [] (inr (i .phase, refl)) refl (omega (arith, L .k-n))
-      go (Locking old) i = let fit = i .within in next-lock i old (inl (i .phase)) (search (and-left, and-right)) (search (and-left, and-right, ltb-true))
-      go (Picking t) i = out
-      go (Writing j u e) i = out
-      go (Settling j e) i = out
-      go (Unlocking j) i = out
+      go : (p : Rebuild) → eqb (phaseOf p) locks ≡ true → In p → After (Calls.lock c) (Rebuild.lockNode z c (remembered p) w)
+      go NoRebuild e i = next-lock i [] (inr (i .phase, refl)) refl (omega (arith, L .k-n))
+      go (Locking old) e i = let fit = i .within in next-lock i old (inl (i .phase)) (search (and-left, and-right)) (search (and-left, and-right, ltb-true))
+      go (Picking t) e i = clash e refl
+      go (Writing j u epoch) e i = clash e refl
+      go (Settling j epoch) e i = clash e refl
+      go (Unlocking j) e i = clash e refl
 
   ---- Pick
   abbrev chosen : NodeSet
@@ -266,24 +274,19 @@ module _ (z : Sizes) (L : Laws (ops z)) (h : Ledger Block) (s : Stripe) (g : Goo
       (pick-good O L h C g c chosen top (picked-candidate z s (f .nodes) (L .n-18)) many
       (λ j b. l1-is c (at j) (every-at failedNode (Node.heldAtL1 c) N held j (b .low) (rw (f .nodes) (b .high)))) (λ j b. epoch-at-most N j))
 
-  pub pick-kept : Kept z h (Calls.pick c) (step z (Calls.pick c) s)
-  unfolding step Rebuild.pick Rebuild.pickIn Rebuild.pickNow
-  pick-kept = begins (After (Calls.pick c)) (refuses (Calls.pick c)) _ (λ p. Rebuild.pickIn z c p w) (λ e. or-none (outOfLimits z w) _ e .0) go
-    where
-      out : After (Calls.pick c) (refused OutOfPhase w)
-      out = refuses (Calls.pick c) OutOfPhase
+  -- no weakened node is left
+  none-left : In (Picking (nextNode (C .phase c))) → isWeakened w ≡ false → In (Picking 0)
+  none-left i e = subst (λ t. In (Picking t)) (eqb-true (nextNode (C .phase c)) 0 (not-false _ e)) i
 
+  pub pick-kept : Kept z h (Calls.pick c) (step z (Calls.pick c) s)
+  unfolding step Rebuild.pick Rebuild.pickNow
+  pick-kept =
+      begins-in (After (Calls.pick c)) (refuses (Calls.pick c)) _ Rebuild.picks (λ p. Picking (nextNode p)) _ (λ e. or-none (outOfLimits z w) _ e .0) picking-is
+      (λ i. more _ _ _ (λ r3. more _ _ _ (λ r8. needing i (Calls.pick c) _ _
+      (λ held. more _ _ _ (λ r11. more _ _ _ (λ r12. picks (none-left i r3) held (enough r11)))))))
+    where
       more : (test : Bool) (why : Refusal) (rest : Outcome Whole) → (test ≡ false → After (Calls.pick c) rest) → After (Calls.pick c) (guard test why w rest)
       more = tested (After (Calls.pick c)) (refuses (Calls.pick c))
-
-      go : (p : Rebuild) → In p → After (Calls.pick c) (Rebuild.pickIn z c p w)
-      go NoRebuild i = out
-      go (Locking old) i = out
-      go (Picking zero) i = more _ _ _ (λ r8. needing i (Calls.pick c) _ _ (λ held. more _ _ _ (λ r11. more _ _ _ (λ r12. picks i held (enough r11)))))
-      go (Picking (suc t)) i = out
-      go (Writing j u e) i = out
-      go (Settling j e) i = out
-      go (Unlocking j) i = out
 
   ---- Weaken, Tighten
   weakens : In (Picking 0) → someRecons N ≡ false → everyOf (Node.heldBy c) N ≡ true →
@@ -295,25 +298,18 @@ module _ (z : Sizes) (L : Laws (ops z)) (h : Ledger Block) (s : Stripe) (g : Goo
       (weaken-good O h C g c (i .phase) (all-held i held) (none-at failedNode (λ x. Node.isRecons (x .opmode)) refl N none)))
 
   pub weaken-kept : Kept z h (Calls.weaken c) (step z (Calls.weaken c) s)
-  unfolding step Rebuild.weaken Rebuild.weakenIn
-  weaken-kept = begins (After (Calls.weaken c)) (refuses (Calls.weaken c)) (outOfLimits z w) (λ p. Rebuild.weakenIn z c p w) (λ e. e) go
+  unfolding step Rebuild.weaken
+  weaken-kept =
+      begins-in (After (Calls.weaken c)) (refuses (Calls.weaken c)) (outOfLimits z w) Rebuild.picks (λ p. Picking (nextNode p)) _ (λ e. e) picking-is
+      (λ i. more _ _ _ (λ r3. more _ _ _ (λ none. needing i (Calls.weaken c) _ _ (weakens (none-left i r3) none))))
     where
-      out : After (Calls.weaken c) (refused OutOfPhase w)
-      out = refuses (Calls.weaken c) OutOfPhase
+      more : (test : Bool) (why : Refusal) (rest : Outcome Whole) → (test ≡ false → After (Calls.weaken c) rest) → After (Calls.weaken c) (guard test why w rest)
+      more = tested (After (Calls.weaken c)) (refuses (Calls.weaken c))
 
-      go : (p : Rebuild) → In p → After (Calls.weaken c) (Rebuild.weakenIn z c p w)
-      go NoRebuild i = out
-      go (Locking old) i = out
-      go (Picking zero) i = tested (After (Calls.weaken c)) (refuses (Calls.weaken c)) _ _ _ (λ none. needing i (Calls.weaken c) _ _ (weakens i none))
-      go (Picking (suc t)) i = out
-      go (Writing j u e) i = out
-      go (Settling j e) i = out
-      go (Unlocking j) i = out
-
-  tightens : (t : ℕ) → In (Picking (suc t)) → Node.heldBy c (at (suc t)) ≡ true →
-      After (Calls.tighten c) (answered Accepted
-      (advanced (setAt N (suc t) (lockedBy c (at (suc t)))) (cond (leb (z .n) (suc t)) (Picking 0) (Picking (suc t + 1))) w))
-  tightens t i held =
+  tightens : (t : ℕ) → In (Picking t) → eqb t 0 ≡ false → Node.heldBy c (at t) ≡ true →
+      After (Calls.tighten c) (answered Accepted (advanced (setAt N t (lockedBy c (at t))) (nextRebuild (z .n) (Picking t)) w))
+  tightens zero i some held = clash refl some
+  tightens (suc t) i some held =
       rw (add-one (suc t))
       (lock-set-kept i (Calls.tighten c) Accepted (suc t) Lmode.L1 (Client c) (cond (leb (z .n) (suc t)) (Picking 0) (Picking (suc (suc t))))
       (record { low = omega arith; high = high (or-one (eqb (suc t) 0) (ltb (z .k) (suc t) && leb (suc t) (z .n)) (i .within)) })
@@ -324,20 +320,11 @@ module _ (z : Sizes) (L : Laws (ops z)) (h : Ledger Block) (s : Stripe) (g : Goo
       high (inr e) = search (and-right, leb-true)
 
   pub tighten-kept : Kept z h (Calls.tighten c) (step z (Calls.tighten c) s)
-  unfolding step Rebuild.tighten Rebuild.tightenIn
-  tighten-kept = begins (After (Calls.tighten c)) (refuses (Calls.tighten c)) (outOfLimits z w) (λ p. Rebuild.tightenIn z c p w) (λ e. e) go
-    where
-      out : After (Calls.tighten c) (refused OutOfPhase w)
-      out = refuses (Calls.tighten c) OutOfPhase
-
-      go : (p : Rebuild) → In p → After (Calls.tighten c) (Rebuild.tightenIn z c p w)
-      go NoRebuild i = out
-      go (Locking old) i = out
-      go (Picking zero) i = out
-      go (Picking (suc t)) i = needing i (Calls.tighten c) _ _ (tightens t i)
-      go (Writing j u e) i = out
-      go (Settling j e) i = out
-      go (Unlocking j) i = out
+  unfolding step Rebuild.tighten
+  tighten-kept =
+      begins-in (After (Calls.tighten c)) (refuses (Calls.tighten c)) (outOfLimits z w) Rebuild.picks (λ p. Picking (nextNode p)) _ (λ e. e) picking-is
+      (λ i. tested (After (Calls.tighten c)) (refuses (Calls.tighten c)) _ _ _ (λ r3. needing i (Calls.tighten c) _ _
+      (λ held. rw (i .phase) (tightens (nextNode (C .phase c)) i (not-true _ (not-false _ r3)) held))))
 
   ---- Write
   module _ (j : ℕ) (set : NodeSet) (e : Epoch) (i : In (Writing j set e)) where
@@ -351,11 +338,11 @@ module _ (z : Sizes) (L : Laws (ops z)) (h : Ledger Block) (s : Stripe) (g : Goo
     size-v : length v ≡ z .b
     size-v = length-block (z .b) (z .n) j (s .spare) (writing-node .low) (writing-node .high) (f .spare)
 
-    writes : Node.heldBy c (at j) ≡ true → After (Calls.write c) (answered Accepted (Rebuild.writtenAt z j set e w))
+    writes : Node.heldBy c (at j) ≡ true → After (Calls.write c) (answered Accepted (Rebuild.spareWritten z w))
     writes held =
         let low = writing-node .low in
         let high = writing-node .high in
-        rw (add-one j)
+        rw (i .phase, add-one j)
         (set-kept i (Calls.write c) Accepted j (Node.written e set (at j)) (setBlock (z .b) j v (s .blocks)) (writePhase O j set e) writing-node
         (length-put (z .b) (z .n) j v (s .blocks) low high (f .blocks) size-v)
         (bytes-put (z .b) j v (s .blocks) (bytes-block (z .b) j (s .spare) (f .spare-bytes)) (f .blocks-bytes))
@@ -369,19 +356,10 @@ module _ (z : Sizes) (L : Laws (ops z)) (h : Ledger Block) (s : Stripe) (g : Goo
         (write-good O L h C g c j set e (i .phase) (held-at i j held)))
 
   pub write-kept : Kept z h (Calls.write c) (step z (Calls.write c) s)
-  unfolding step Rebuild.write Rebuild.writeIn
-  write-kept = begins (After (Calls.write c)) (refuses (Calls.write c)) _ (λ p. Rebuild.writeIn z c p w) (λ e. or-none (outOfLimits z w) _ e .0) go
-    where
-      out : After (Calls.write c) (refused OutOfPhase w)
-      out = refuses (Calls.write c) OutOfPhase
-
-      go : (p : Rebuild) → In p → After (Calls.write c) (Rebuild.writeIn z c p w)
-      go NoRebuild i = out
-      go (Locking old) i = out
-      go (Picking t) i = out
-      go (Writing j set e) i = needing i (Calls.write c) _ _ (writes j set e i)
-      go (Settling j e) i = out
-      go (Unlocking j) i = out
+  unfolding step Rebuild.write
+  write-kept =
+      begins-in (After (Calls.write c)) (refuses (Calls.write c)) _ Rebuild.writes (λ p. Writing (nextNode p) (setIn p) (epochIn p)) _
+      (λ e. or-none (outOfLimits z w) _ e .0) writing-is (λ i. needing i (Calls.write c) _ _ (writes _ _ _ i))
 
   ---- Settle
   -- either answer says that it is accepted
@@ -391,7 +369,7 @@ module _ (z : Sizes) (L : Laws (ops z)) (h : Ledger Block) (s : Stripe) (g : Goo
 
   settles : (j : ℕ) (e : Epoch) → In (Settling j e) → everyOf (Node.heldBy c) N ≡ true →
       After (Calls.settle c) (answered (cond (leb (z .n) j) Rebuilt Accepted)
-      (advanced (setAt N j (Node.settled e (at j))) (cond (leb (z .n) j) (Unlocking 1) (Settling (j + 1) e)) w))
+      (advanced (setAt N j (Node.settled e (at j))) (nextRebuild (z .n) (Settling j e)) w))
   settles j e i held =
       let fit = i .within in
       rw (add-one j)
@@ -399,44 +377,28 @@ module _ (z : Sizes) (L : Laws (ops z)) (h : Ledger Block) (s : Stripe) (g : Goo
       (f .blocks) (f .blocks-bytes) (settled O c j e C) (rw (upd-keep (C .lock) j, add-one (e .0)))
       (rw (settle-entry (leb (z .n) j)) (settle-good O L h C g c j e (i .phase) (all-held i held))))
 
-  pub settle-kept : Kept z h (Calls.settle c) (step z (Calls.settle c) s)
-  unfolding step Rebuild.settle Rebuild.settleIn
-  settle-kept = begins (After (Calls.settle c)) (refuses (Calls.settle c)) (outOfLimits z w) (λ p. Rebuild.settleIn z c p w) (λ e. e) go
-    where
-      out : After (Calls.settle c) (refused OutOfPhase w)
-      out = refuses (Calls.settle c) OutOfPhase
+  abbrev settlingForm : Rebuild → Rebuild
+  settlingForm p = Settling (nextNode p) (epochIn p)
 
-      go : (p : Rebuild) → In p → After (Calls.settle c) (Rebuild.settleIn z c p w)
-      go NoRebuild i = out
-      go (Locking old) i = out
-      go (Picking t) i = out
-      go (Writing j u e) i = out
-      go (Settling j e) i = needing i (Calls.settle c) _ _ (settles j e i)
-      go (Unlocking j) i = out
+  pub settle-kept : Kept z h (Calls.settle c) (step z (Calls.settle c) s)
+  unfolding step Rebuild.settle
+  settle-kept =
+      begins-in (After (Calls.settle c)) (refuses (Calls.settle c)) (outOfLimits z w) Rebuild.settles settlingForm _ (λ e. e) settling-is
+      (λ i. needing i (Calls.settle c) _ _ (λ held. rw (i .phase) (settles (nextNode (C .phase c)) (epochIn (C .phase c)) i held)))
 
   -- after an accepted settle the n blocks are one codeword, of first parts
   pub settle-rebuilt : eqb (number (step z (Calls.settle c) s .answer)) 0 ≡ true → Ledger.Rebuilt O h (blockOf (z .b) (step z (Calls.settle c) s .after .blocks))
-  unfolding step Rebuild.settle Rebuild.settleIn holding
-  settle-rebuilt = begins P out (outOfLimits z w) (λ p. Rebuild.settleIn z c p w) (λ e. e) go
+  unfolding step Rebuild.settle holding
+  settle-rebuilt =
+      begins-in P (λ why e. clash e (refusal-number why)) (outOfLimits z w) Rebuild.settles settlingForm _ (λ e. e) settling-is
+      (λ i. cond-ind P (everyOf (Node.heldBy c) N) _ _ (λ held t. settled-rebuilt O L h C g c _ _ (i .phase) (all-held i held)) (λ f t. clash t refl))
     where
       P : Outcome Whole → Type 0
       P o = eqb (number (o .answer)) 0 ≡ true → Ledger.Rebuilt O h (blockOf (z .b) (o .after .blocks))
 
-      out : (why : Refusal) → P (refused why w)
-      out why e = clash e (refusal-number why)
-
-      go : (p : Rebuild) → In p → P (Rebuild.settleIn z c p w)
-      go NoRebuild i = out OutOfPhase
-      go (Locking old) i = out OutOfPhase
-      go (Picking t) i = out OutOfPhase
-      go (Writing j u e) i = out OutOfPhase
-      go (Settling j e) i =
-          cond-ind P (everyOf (Node.heldBy c) N) _ _ (λ held t. settled-rebuilt O L h C g c j e (i .phase) (all-held i held)) (λ f t. clash t refl)
-      go (Unlocking j) i = out OutOfPhase
-
   ---- Unlock
   unlocks : (j : ℕ) → In (Unlocking j) → Node.heldBy c (at j) ≡ true →
-      After (Calls.unlock c) (answered Accepted (advanced (setAt N j (Node.unlocked (at j))) (cond (leb (z .n) j) NoRebuild (Unlocking (j + 1))) w))
+      After (Calls.unlock c) (answered Accepted (advanced (setAt N j (Node.unlocked (at j))) (nextRebuild (z .n) (Unlocking j)) w))
   unlocks j i held =
       let b = node j (i .within) in
       rw (add-one j)
@@ -444,24 +406,14 @@ module _ (z : Sizes) (L : Laws (ops z)) (h : Ledger Block) (s : Stripe) (g : Goo
       (unlock-good O h C g c j (i .phase) b (held-at i j held)))
 
   pub unlock-kept : Kept z h (Calls.unlock c) (step z (Calls.unlock c) s)
-  unfolding step Rebuild.unlock Rebuild.unlockIn
-  unlock-kept = begins (After (Calls.unlock c)) (refuses (Calls.unlock c)) (outOfLimits z w) (λ p. Rebuild.unlockIn z c p w) (λ e. e) go
-    where
-      out : After (Calls.unlock c) (refused OutOfPhase w)
-      out = refuses (Calls.unlock c) OutOfPhase
-
-      go : (p : Rebuild) → In p → After (Calls.unlock c) (Rebuild.unlockIn z c p w)
-      go NoRebuild i = out
-      go (Locking old) i = out
-      go (Picking t) i = out
-      go (Writing j u e) i = out
-      go (Settling j e) i = out
-      go (Unlocking j) i = needing i (Calls.unlock c) _ _ (unlocks j i)
+  unfolding step Rebuild.unlock
+  unlock-kept =
+      begins-in (After (Calls.unlock c)) (refuses (Calls.unlock c)) (outOfLimits z w) Rebuild.unlocks (λ p. Unlocking (nextNode p)) _ (λ e. e) unlocking-is
+      (λ i. needing i (Calls.unlock c) _ _ (λ held. rw (i .phase) (unlocks (nextNode (C .phase c)) i held)))
 
   ---- Quit
   pub quit-kept : Kept z h (Calls.quit c) (step z (Calls.quit c) s)
   unfolding step Rebuild.quit
   quit-kept =
-      begins (After (Calls.quit c)) (refuses (Calls.quit c)) (outOfLimits z w)
-      (λ p. guard (not (hasRebuild p)) OutOfPhase w (answered Accepted (Rebuild.lost c w))) (λ e. e)
-      (λ p i. tested (After (Calls.quit c)) (refuses (Calls.quit c)) _ _ _ (λ r3. lost-kept i (Calls.quit c) Accepted (quit-good O h C g c)))
+      begins (After (Calls.quit c)) (refuses (Calls.quit c)) (outOfLimits z w) _ (λ e. e)
+      (λ i. tested (After (Calls.quit c)) (refuses (Calls.quit c)) _ _ _ (λ r3. lost-kept i (Calls.quit c) Accepted (quit-good O h C g c)))

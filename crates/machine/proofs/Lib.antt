@@ -25,6 +25,7 @@ pub mod Largest
 pub mod Candidates
 -- the machine's calls keep the invariant
 pub mod Kept
+pub mod InPhase
 pub mod KeptStart
 pub mod KeptWriting
 pub mod KeptRebuild

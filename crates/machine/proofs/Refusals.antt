@@ -2,9 +2,9 @@
 -- Assumes nothing.
 use mathlib.Core.Path.{_≡_, refl, ap, _∙_}
 use mathlib.Core.Bool.{Bool, true, false, cond, _||_, not}
-use mathlib.Core.List.{List, []}
+use mathlib.Core.List.{List}
 use mathlib.Core.Option.{Option, none, some}
-use Prim.Native.Nat.{ℕ, zero, suc, _+_}
+use Prim.Native.Nat.{ℕ, _+_}
 use lib.Dec.{eqb, leb}
 use lib.ListN.{length}
 use Rattle.code.specs.Decode.{including}
@@ -19,8 +19,8 @@ use Rattle.records.specs.declared.ClientCall.{ClientCall}
 use Rattle.records.specs.declared.ClientCall.the-variants.{Drop, Sweep, Stop, Lock, Weaken, Tighten, Settle, Unlock, Quit}
 use Rattle.records.specs.declared.ClientCall.the-variants as ClientCall
 use Rattle.records.specs.declared.Refusal.{Refusal}
-use Rattle.records.specs.declared.Refusal.the-variants.{OutOfLimits, OutOfRange}
-use Rattle.records.specs.Client.{Write, Rebuild, NoRebuild, Locking, Picking, Writing, Settling, Unlocking}
+use Rattle.records.specs.declared.Refusal.the-variants.{OutOfLimits, OutOfRange, OutOfPhase}
+use Rattle.records.specs.Client.{Write, remembered}
 use Rattle.machine.specs.Stripe.{Stripe, Answer, Accepted, Rebuilt, number, nodeAt, Outcome, answered, refused, guard, Local, Whole, atNode, putNode, onNode, whole, putWhole, onWhole}
 use Rattle.machine.specs.Writing as Writing
 use Rattle.machine.specs.Rebuild as Rebuild
@@ -114,89 +114,55 @@ module _ (z : Sizes) where
     holding-same true rest k = k
     holding-same false rest k = same-other w _ _ refl
 
-    -- the tests that every rebuild call begins with
+    -- the tests that a call begins with; that of a rebuild call's phase
     begun-same : (a b : Bool) (rest : Outcome Whole) → Same w rest → Same w (guard a OutOfLimits w (guard b OutOfRange w rest))
     begun-same a b rest k = same-guard w a _ _ (same-guard w b _ _ k)
+
+    phased-same : (a b out : Bool) (rest : Outcome Whole) → Same w rest → Same w (guard a OutOfLimits w (guard b OutOfRange w (guard out OutOfPhase w rest)))
+    phased-same a b out rest k = begun-same a b _ (same-guard w out _ _ k)
 
     stop-same : Same w (Failure.stop z c w)
     unfolding Failure.stop
     stop-same = begun-same _ _ _ (same-other w _ _ refl)
 
-    lock-node-same : (old : List _) → Same w (Rebuild.lockNode z c old w)
-    unfolding Rebuild.lockNode
-    lock-node-same old =
-        let x = nodeAt (w .nodes) (length old + 1) in
-        same-cond w (isL0 (x .lmode) || isL1 (x .lmode)) _ _ (same-other w _ _ refl) (same-other w _ _ refl)
+    lock-same : Same w (Rebuild.lock z c w)
+    unfolding Rebuild.lock Rebuild.lockNode
+    lock-same =
+        let x = nodeAt (w .nodes) (length (remembered (w .client .rebuild)) + 1) in
+        phased-same _ _ _ _ (same-cond w (isL0 (x .lmode) || isL1 (x .lmode)) _ _ (same-other w _ _ refl) (same-other w _ _ refl))
 
-    lock-same : (r : Rebuild) → Same w (Rebuild.lockIn z c r w)
-    unfolding Rebuild.lockIn
-    lock-same NoRebuild = lock-node-same []
-    lock-same (Locking old) = lock-node-same old
-    lock-same (Picking t) = same-refused w _
-    lock-same (Writing x set e) = same-refused w _
-    lock-same (Settling x e) = same-refused w _
-    lock-same (Unlocking x) = same-refused w _
+    pick-same : Same w (Rebuild.pick z c w)
+    unfolding Rebuild.pick Rebuild.pickNow
+    pick-same =
+        phased-same _ _ _ _
+        (same-guard w _ _ _ (same-guard w _ _ _ (holding-same _ _ (same-guard w _ _ _ (same-guard w _ _ _ (same-other w _ _ refl))))))
 
-    pick-now-same : Same w (Rebuild.pickNow z c w)
-    unfolding Rebuild.pickNow
-    pick-now-same = same-guard w _ _ _ (holding-same _ _ (same-guard w _ _ _ (same-guard w _ _ _ (same-other w _ _ refl))))
+    weaken-same : Same w (Rebuild.weaken z c w)
+    unfolding Rebuild.weaken
+    weaken-same = phased-same _ _ _ _ (same-guard w _ _ _ (same-guard w _ _ _ (holding-same _ _ (same-other w _ _ refl))))
 
-    pick-same : (r : Rebuild) → Same w (Rebuild.pickIn z c r w)
-    unfolding Rebuild.pickIn
-    pick-same NoRebuild = same-refused w _
-    pick-same (Locking old) = same-refused w _
-    pick-same (Picking zero) = pick-now-same
-    pick-same (Picking (suc t)) = same-refused w _
-    pick-same (Writing x set e) = same-refused w _
-    pick-same (Settling x e) = same-refused w _
-    pick-same (Unlocking x) = same-refused w _
+    tighten-same : Same w (Rebuild.tighten z c w)
+    unfolding Rebuild.tighten
+    tighten-same = phased-same _ _ _ _ (same-guard w _ _ _ (holding-same _ _ (same-other w _ _ refl)))
 
-    weaken-same : (r : Rebuild) → Same w (Rebuild.weakenIn z c r w)
-    unfolding Rebuild.weakenIn
-    weaken-same NoRebuild = same-refused w _
-    weaken-same (Locking old) = same-refused w _
-    weaken-same (Picking zero) = same-guard w _ _ _ (holding-same _ _ (same-other w _ _ refl))
-    weaken-same (Picking (suc t)) = same-refused w _
-    weaken-same (Writing x set e) = same-refused w _
-    weaken-same (Settling x e) = same-refused w _
-    weaken-same (Unlocking x) = same-refused w _
+    writing-same : Same w (Rebuild.write z c w)
+    unfolding Rebuild.write
+    writing-same = phased-same _ _ _ _ (holding-same _ _ (same-other w _ _ refl))
 
-    tighten-same : (r : Rebuild) → Same w (Rebuild.tightenIn z c r w)
-    unfolding Rebuild.tightenIn
-    tighten-same NoRebuild = same-refused w _
-    tighten-same (Locking old) = same-refused w _
-    tighten-same (Picking zero) = same-refused w _
-    tighten-same (Picking (suc t)) = holding-same _ _ (same-other w _ _ refl)
-    tighten-same (Writing x set e) = same-refused w _
-    tighten-same (Settling x e) = same-refused w _
-    tighten-same (Unlocking x) = same-refused w _
+    settle-same : Same w (Rebuild.settle z c w)
+    unfolding Rebuild.settle
+    settle-same =
+        phased-same _ _ _ _
+        (holding-same _ _
+        (same-other w _ _ (cond-ind (λ a. mayChange (number a) ≡ true) (leb (z .n) (Rebuild.own w)) Rebuilt Accepted (λ e. refl) (λ e. refl))))
 
-    writing-same : (r : Rebuild) → Same w (Rebuild.writeIn z c r w)
-    unfolding Rebuild.writeIn
-    writing-same NoRebuild = same-refused w _
-    writing-same (Locking old) = same-refused w _
-    writing-same (Picking t) = same-refused w _
-    writing-same (Writing x set e) = holding-same _ _ (same-other w _ _ refl)
-    writing-same (Settling x e) = same-refused w _
-    writing-same (Unlocking x) = same-refused w _
+    unlock-same : Same w (Rebuild.unlock z c w)
+    unfolding Rebuild.unlock
+    unlock-same = phased-same _ _ _ _ (holding-same _ _ (same-other w _ _ refl))
 
-    settle-same : (r : Rebuild) → Same w (Rebuild.settleIn z c r w)
-    unfolding Rebuild.settleIn
-    settle-same NoRebuild = same-refused w _
-    settle-same (Locking old) = same-refused w _
-    settle-same (Picking t) = same-refused w _
-    settle-same (Writing x set e) = same-refused w _
-    settle-same (Settling x e) = holding-same _ _ (same-other w _ _ (cond-ind (λ a. mayChange (number a) ≡ true) (leb (z .n) x) Rebuilt Accepted (λ e. refl) (λ e. refl)))
-    settle-same (Unlocking x) = same-refused w _
-
-    unlock-same : (r : Rebuild) → Same w (Rebuild.unlockIn z c r w)
-    unfolding Rebuild.unlockIn
-    unlock-same NoRebuild = same-refused w _
-    unlock-same (Locking old) = same-refused w _
-    unlock-same (Picking t) = same-refused w _
-    unlock-same (Writing x set e) = same-refused w _
-    unlock-same (Settling x e) = same-refused w _
-    unlock-same (Unlocking x) = holding-same _ _ (same-other w _ _ refl)
+    quit-same : Same w (Rebuild.quit z c w)
+    unfolding Rebuild.quit
+    quit-same = phased-same _ _ _ _ (same-other w _ _ refl)
 
   module _ (s : Stripe) where
     at-same : (j c : ℕ) (call : Local → Outcome Local) → Same (atNode j c s) (call (atNode j c s)) → Same s (onNode j c call s)
@@ -210,22 +176,21 @@ module _ (z : Sizes) where
     at-call Check c j = check-same (atNode j c s) c j
 
     by-call : (op : ClientCall) (c : ℕ) → Same s (stepBy op z c s)
-    unfolding Rebuild.lock Rebuild.weaken Rebuild.tighten Rebuild.write Rebuild.settle Rebuild.unlock Rebuild.quit
     by-call Drop c = at-same 0 c (Writing.drop z c) (drop-same (atNode 0 c s) c)
     by-call Sweep c = at-same _ c (Writing.sweep z c) (sweep-same _ c)
     by-call Stop c = on-same c (Failure.stop z c) (stop-same c (whole c s))
-    by-call Lock c = on-same c (Rebuild.lock z c) (begun-same c (whole c s) _ _ _ (lock-same c (whole c s) (whole c s .client .rebuild)))
-    by-call Weaken c = on-same c (Rebuild.weaken z c) (begun-same c (whole c s) _ _ _ (weaken-same c (whole c s) (whole c s .client .rebuild)))
-    by-call Tighten c = on-same c (Rebuild.tighten z c) (begun-same c (whole c s) _ _ _ (tighten-same c (whole c s) (whole c s .client .rebuild)))
-    by-call ClientCall.Write c = on-same c (Rebuild.write z c) (begun-same c (whole c s) _ _ _ (writing-same c (whole c s) (whole c s .client .rebuild)))
-    by-call Settle c = on-same c (Rebuild.settle z c) (begun-same c (whole c s) _ _ _ (settle-same c (whole c s) (whole c s .client .rebuild)))
-    by-call Unlock c = on-same c (Rebuild.unlock z c) (begun-same c (whole c s) _ _ _ (unlock-same c (whole c s) (whole c s .client .rebuild)))
-    by-call Quit c = on-same c (Rebuild.quit z c) (begun-same c (whole c s) _ _ _ (same-guard (whole c s) _ _ _ (same-other (whole c s) _ _ refl)))
+    by-call Lock c = on-same c (Rebuild.lock z c) (lock-same c (whole c s))
+    by-call Weaken c = on-same c (Rebuild.weaken z c) (weaken-same c (whole c s))
+    by-call Tighten c = on-same c (Rebuild.tighten z c) (tighten-same c (whole c s))
+    by-call ClientCall.Write c = on-same c (Rebuild.write z c) (writing-same c (whole c s))
+    by-call Settle c = on-same c (Rebuild.settle z c) (settle-same c (whole c s))
+    by-call Unlock c = on-same c (Rebuild.unlock z c) (unlock-same c (whole c s))
+    by-call Quit c = on-same c (Rebuild.quit z c) (quit-same c (whole c s))
 
     call-same : (call : Call) → Same s (step z call s)
-    unfolding step Rebuild.pick
+    unfolding step
     call-same (Read i) = at-same i 0 (Writing.read z i) (read-same (atNode i 0 s) i)
-    call-same (Pick c) = on-same c (Rebuild.pick z c) (begun-same c (whole c s) _ _ _ (pick-same c (whole c s) (whole c s .client .rebuild)))
+    call-same (Pick c) = on-same c (Rebuild.pick z c) (pick-same c (whole c s))
     call-same (Swap c i value) = at-same i c (Writing.swap z c i value) (swap-same (atNode i c s) c i value)
     call-same (Fail j value) = at-same j 0 (Failure.fail z j value) (fail-same (atNode j 0 s) j value)
     call-same (At op c j) = at-same j c (stepAt op z c j) (at-call op c j)

@@ -1,6 +1,5 @@
 -- Document 01, "Rebuild": the calls on the whole stripe. Each tests what it is lent, then in the order of the numbers. Answer 1 is decided by the
--- sizes, all n node records and the client's record; of pick and write also by the lengths of the blocks and the spare. After that and the client's
--- number a call X does what `XIn` says of the phase that its client's rebuild is in. Assumes nothing.
+-- sizes, all n node records and the client's record; of pick and write also by the lengths of the blocks and the spare. Assumes nothing.
 use mathlib.Core.Bool.{Bool, cond, _&&_, _||_, not}
 use mathlib.Core.List.{List, [], _∷_, _++_, map}
 use Prim.Native.Nat.{ℕ, zero, suc, _+_, _-_, max}
@@ -8,7 +7,7 @@ use lib.Dec.{eqb, leb, ltb}
 use lib.ListN.{length, take}
 use lib.ListN as ListN
 use Rattle.blocks.specs.Blocks.{block, setBlock}
-use Rattle.code.specs.Decode.{NodeSet, has, setOf, size, lowest, recoveredTable, invertible}
+use Rattle.code.specs.Decode.{NodeSet, has, noNodes, setOf, size, lowest, recoveredTable, invertible}
 use Rattle.entries.specs.declared.Epoch.{Epoch}
 use Rattle.entries.specs.declared.WriteId.{WriteId}
 use Rattle.entries.specs.Entries.{Entry, isRecent, isIn, isOldIn}
@@ -19,8 +18,8 @@ use Rattle.records.specs.Sizes.{sizesWithin, isClient}
 use Rattle.records.specs.Node.{Node, epochLimit, isNorm, isRecons, isInit, isL0, isL1, heldBy, heldAtL1, lockedBy, weakenedBy, unlocked, expiredFor}
 use Rattle.records.specs.Node.{givenBack, written, settled}
 use Rattle.records.specs.Client.{Rebuild, NoRebuild, Locking, Picking, Writing, Settling, Unlocking, hasRebuild, withRebuild}
-use Rattle.records.specs.Client.{lockedRebuild, nextRebuild, clientWithin}
-use Rattle.machine.specs.Stripe.{Accepted, Rebuilt, Refused, Outcome, answered, refused, guard, Whole, nodeAt, blocksFit, nodesFit}
+use Rattle.records.specs.Client.{remembered, nextNode, lockedRebuild, nextRebuild, clientWithin}
+use Rattle.machine.specs.Stripe.{Accepted, Rebuilt, Refused, Outcome, answered, guard, Whole, nodeAt, blocksFit, nodesFit}
 use Rattle.basics.specs.Lists.{setAt}
 use Rattle.basics.specs.Lists.{everyOf, someOf}
 
@@ -38,6 +37,63 @@ holding held c w rest = cond held rest (answered (Refused NotHeld) (lost c w))
 abbrev pub outOfLimits : Sizes → Whole → Bool
 outOfLimits z w = not (sizesWithin z && (nodesFit z (w .nodes) && clientWithin z (w .client)))
 
+-- "The phases are n locks; then picks, weakens and tightens up to the first accepted pick; then n writes, n settles, n unlocks."
+abbrev pub locks : ℕ
+locks = 1
+
+abbrev pub picks : ℕ
+picks = 2
+
+abbrev pub writes : ℕ
+writes = 3
+
+abbrev pub settles : ℕ
+settles = 4
+
+abbrev pub unlocks : ℕ
+unlocks = 5
+
+-- the phase of a rebuild; a client that has none begins with a lock
+abbrev pub phaseOf : Rebuild → ℕ
+phaseOf NoRebuild = locks
+phaseOf (Locking old) = locks
+phaseOf (Picking t) = picks
+phaseOf (Writing j set epoch) = writes
+phaseOf (Settling j epoch) = settles
+phaseOf (Unlocking j) = unlocks
+
+-- "3: .. rebuild call out of its phase"
+abbrev pub outOf : ℕ → Whole → Bool
+outOf phase w = not (eqb (phaseOf (w .client .rebuild)) phase)
+
+-- the node that the client's rebuild is at, and its record
+abbrev pub own : Whole → ℕ
+own w = nextNode (w .client .rebuild)
+
+abbrev pub ownNode : Whole → Node
+ownNode w = nodeAt (w .nodes) (own w)
+
+-- that record becomes `node`, and the rebuild goes on with the next node, or the next phase
+abbrev pub goneOn : Sizes → Node → Whole → Whole
+goneOn z node w = advanced (setAt (w .nodes) (own w) node) (nextRebuild (z .n) (w .client .rebuild)) w
+
+-- the set and E, which a rebuild has from its accepted pick on
+abbrev pub setIn : Rebuild → NodeSet
+setIn NoRebuild = noNodes
+setIn (Locking old) = noNodes
+setIn (Picking t) = noNodes
+setIn (Writing j set epoch) = set
+setIn (Settling j epoch) = noNodes
+setIn (Unlocking j) = noNodes
+
+abbrev pub epochIn : Rebuild → Epoch
+epochIn NoRebuild = record { 0 = 0 }
+epochIn (Locking old) = record { 0 = 0 }
+epochIn (Picking t) = record { 0 = 0 }
+epochIn (Writing j set epoch) = epoch
+epochIn (Settling j epoch) = epoch
+epochIn (Unlocking j) = record { 0 = 0 }
+
 -- "9: lock of a node at L0 or L1: nodes still held by c get their old lmode; rebuild ends"
 unfoldable pub restored : ℕ → List Lmode → List Node → List Node
 restored c [] nodes = nodes
@@ -54,17 +110,13 @@ lockNode z c old w =
     (answered Accepted
     (advanced (setAt (w .nodes) j (lockedBy c node)) (lockedRebuild (z .n) (node .lmode) old) w))
 
-unfoldable pub lockIn : Sizes → ℕ → Rebuild → Whole → Outcome Whole
-lockIn z c NoRebuild w = lockNode z c [] w
-lockIn z c (Locking old) w = lockNode z c old w
-lockIn z c (Picking t) w = refused OutOfPhase w
-lockIn z c (Writing j set epoch) w = refused OutOfPhase w
-lockIn z c (Settling j epoch) w = refused OutOfPhase w
-lockIn z c (Unlocking j) w = refused OutOfPhase w
-
 -- "Lock c"
 unfoldable pub lock : Sizes → ℕ → Whole → Outcome Whole
-lock z c w = guard (outOfLimits z w) OutOfLimits w (guard (not (isClient z c)) OutOfRange w (lockIn z c (w .client .rebuild) w))
+lock z c w =
+    guard (outOfLimits z w) OutOfLimits w
+    (guard (not (isClient z c)) OutOfRange w
+    (guard (outOf locks w) OutOfPhase w
+    (lockNode z c (remembered (w .client .rebuild)) w)))
 
 -- "ids marked old at any NORM node"
 abbrev pub oldSomewhere : List Node → WriteId → Bool
@@ -150,112 +202,82 @@ pickNow z c w =
     (guard (not (invertible (z .k) (lowest set))) NoInverse w
     (answered Accepted (picked z set epoch w)))))
 
--- "weaken or pick while a weakened node isn't tightened": 3
-unfoldable pub pickIn : Sizes → ℕ → Rebuild → Whole → Outcome Whole
-pickIn z c NoRebuild w = refused OutOfPhase w
-pickIn z c (Locking old) w = refused OutOfPhase w
-pickIn z c (Picking zero) w = pickNow z c w
-pickIn z c (Picking (suc t)) w = refused OutOfPhase w
-pickIn z c (Writing j set epoch) w = refused OutOfPhase w
-pickIn z c (Settling j epoch) w = refused OutOfPhase w
-pickIn z c (Unlocking j) w = refused OutOfPhase w
+-- "a weakened node isn't tightened": in the phase of the picks the rebuild is at the lowest one
+abbrev pub isWeakened : Whole → Bool
+isWeakened w = not (eqb (own w) 0)
 
--- "Pick c: needs all n held by c at L1."
+-- "Pick c: needs all n held by c at L1." "3: .. weaken or pick while a weakened node isn't tightened"
 unfoldable pub pick : Sizes → ℕ → Whole → Outcome Whole
 pick z c w =
     guard (outOfLimits z w || not (blocksFit z (w .blocks) && blocksFit z (w .spare))) OutOfLimits w
-    (guard (not (isClient z c)) OutOfRange w (pickIn z c (w .client .rebuild) w))
+    (guard (not (isClient z c)) OutOfRange w
+    (guard (outOf picks w) OutOfPhase w
+    (guard (isWeakened w) OutOfPhase w
+    (pickNow z c w))))
 
 -- "redundant nodes go to L0"
 abbrev pub weakened : Sizes → ℕ → List Node → List Node
 weakened z c nodes = take (z .k) nodes ++ map (weakenedBy c) (ListN.drop (z .k) nodes)
 
-unfoldable pub weakenIn : Sizes → ℕ → Rebuild → Whole → Outcome Whole
-weakenIn z c NoRebuild w = refused OutOfPhase w
-weakenIn z c (Locking old) w = refused OutOfPhase w
-weakenIn z c (Picking zero) w =
-    guard (someRecons (w .nodes)) OutOfPhase w
-    (holding (everyOf (heldBy c) (w .nodes)) c w
-    (answered Accepted (advanced (weakened z c (w .nodes)) (Picking (z .k + 1)) w)))
-weakenIn z c (Picking (suc t)) w = refused OutOfPhase w
-weakenIn z c (Writing j set epoch) w = refused OutOfPhase w
-weakenIn z c (Settling j epoch) w = refused OutOfPhase w
-weakenIn z c (Unlocking j) w = refused OutOfPhase w
-
 -- "Weaken c: needs all n held, none RECONS, and every node weakened before tightened again"
 unfoldable pub weaken : Sizes → ℕ → Whole → Outcome Whole
-weaken z c w = guard (outOfLimits z w) OutOfLimits w (guard (not (isClient z c)) OutOfRange w (weakenIn z c (w .client .rebuild) w))
-
-unfoldable pub tightenIn : Sizes → ℕ → Rebuild → Whole → Outcome Whole
-tightenIn z c NoRebuild w = refused OutOfPhase w
-tightenIn z c (Locking old) w = refused OutOfPhase w
-tightenIn z c (Picking zero) w = refused OutOfPhase w
-tightenIn z c (Picking (suc t)) w =
-    let j = suc t in
-    let node = nodeAt (w .nodes) j in
-    holding (heldBy c node) c w
-    (answered Accepted (advanced (setAt (w .nodes) j (lockedBy c node)) (nextRebuild (z .n) (Picking j)) w))
-tightenIn z c (Writing j set epoch) w = refused OutOfPhase w
-tightenIn z c (Settling j epoch) w = refused OutOfPhase w
-tightenIn z c (Unlocking j) w = refused OutOfPhase w
+weaken z c w =
+    guard (outOfLimits z w) OutOfLimits w
+    (guard (not (isClient z c)) OutOfRange w
+    (guard (outOf picks w) OutOfPhase w
+    (guard (isWeakened w) OutOfPhase w
+    (guard (someRecons (w .nodes)) OutOfPhase w
+    (holding (everyOf (heldBy c) (w .nodes)) c w
+    (answered Accepted (advanced (weakened z c (w .nodes)) (Picking (z .k + 1)) w)))))))
 
 -- "Tighten c: the lowest redundant node not tightened since the weaken goes to L1; with none left it is out of phase."
 unfoldable pub tighten : Sizes → ℕ → Whole → Outcome Whole
-tighten z c w = guard (outOfLimits z w) OutOfLimits w (guard (not (isClient z c)) OutOfRange w (tightenIn z c (w .client .rebuild) w))
+tighten z c w =
+    guard (outOfLimits z w) OutOfLimits w
+    (guard (not (isClient z c)) OutOfRange w
+    (guard (outOf picks w) OutOfPhase w
+    (guard (not (isWeakened w)) OutOfPhase w
+    (holding (heldBy c (ownNode w)) c w
+    (answered Accepted (goneOn z (lockedBy c (ownNode w)) w))))))
 
 -- "block from the spare, RECONS, epoch E, rset = the set"
-abbrev pub writtenAt : Sizes → ℕ → NodeSet → Epoch → Whole → Whole
-writtenAt z j set epoch w =
+abbrev pub spareWritten : Sizes → Whole → Whole
+spareWritten z w =
+    let r = w .client .rebuild in
     record {
-      nodes = setAt (w .nodes) j (written epoch set (nodeAt (w .nodes) j));
-      client = withRebuild (nextRebuild (z .n) (Writing j set epoch)) (w .client);
-      blocks = setBlock (z .b) j (block (z .b) j (w .spare)) (w .blocks);
+      nodes = setAt (w .nodes) (own w) (written (epochIn r) (setIn r) (ownNode w));
+      client = withRebuild (nextRebuild (z .n) r) (w .client);
+      blocks = setBlock (z .b) (own w) (block (z .b) (own w) (w .spare)) (w .blocks);
       spare = w .spare;
     }
-
-unfoldable pub writeIn : Sizes → ℕ → Rebuild → Whole → Outcome Whole
-writeIn z c NoRebuild w = refused OutOfPhase w
-writeIn z c (Locking old) w = refused OutOfPhase w
-writeIn z c (Picking t) w = refused OutOfPhase w
-writeIn z c (Writing j set epoch) w = holding (heldBy c (nodeAt (w .nodes) j)) c w (answered Accepted (writtenAt z j set epoch w))
-writeIn z c (Settling j epoch) w = refused OutOfPhase w
-writeIn z c (Unlocking j) w = refused OutOfPhase w
 
 -- "Write c, 1 to n"
 unfoldable pub write : Sizes → ℕ → Whole → Outcome Whole
 write z c w =
     guard (outOfLimits z w || not (blocksFit z (w .blocks) && blocksFit z (w .spare))) OutOfLimits w
-    (guard (not (isClient z c)) OutOfRange w (writeIn z c (w .client .rebuild) w))
-
-unfoldable pub settleIn : Sizes → ℕ → Rebuild → Whole → Outcome Whole
-settleIn z c NoRebuild w = refused OutOfPhase w
-settleIn z c (Locking old) w = refused OutOfPhase w
-settleIn z c (Picking t) w = refused OutOfPhase w
-settleIn z c (Writing j set epoch) w = refused OutOfPhase w
-settleIn z c (Settling j epoch) w = holding (everyOf (heldBy c) (w .nodes)) c w
-    (answered (cond (leb (z .n) j) Rebuilt Accepted)
-    (advanced (setAt (w .nodes) j (settled epoch (nodeAt (w .nodes) j))) (nextRebuild (z .n) (Settling j epoch)) w))
-settleIn z c (Unlocking j) w = refused OutOfPhase w
+    (guard (not (isClient z c)) OutOfRange w
+    (guard (outOf writes w) OutOfPhase w
+    (holding (heldBy c (ownNode w)) c w
+    (answered Accepted (spareWritten z w)))))
 
 -- "Settle c, 1 to n, after all writes: epoch E+1, entries cleared, rset cleared, NORM, still held. The nth settle finishes the rebuild."
 -- "A needed node is the call's own; for pick, weaken and settle, all n."
 unfoldable pub settle : Sizes → ℕ → Whole → Outcome Whole
-settle z c w = guard (outOfLimits z w) OutOfLimits w (guard (not (isClient z c)) OutOfRange w (settleIn z c (w .client .rebuild) w))
-
-unfoldable pub unlockIn : Sizes → ℕ → Rebuild → Whole → Outcome Whole
-unlockIn z c NoRebuild w = refused OutOfPhase w
-unlockIn z c (Locking old) w = refused OutOfPhase w
-unlockIn z c (Picking t) w = refused OutOfPhase w
-unlockIn z c (Writing j set epoch) w = refused OutOfPhase w
-unlockIn z c (Settling j epoch) w = refused OutOfPhase w
-unlockIn z c (Unlocking j) w =
-    let node = nodeAt (w .nodes) j in
-    holding (heldBy c node) c w
-    (answered Accepted (advanced (setAt (w .nodes) j (unlocked node)) (nextRebuild (z .n) (Unlocking j)) w))
+settle z c w =
+    guard (outOfLimits z w) OutOfLimits w
+    (guard (not (isClient z c)) OutOfRange w
+    (guard (outOf settles w) OutOfPhase w
+    (holding (everyOf (heldBy c) (w .nodes)) c w (answered (cond (leb (z .n) (own w)) Rebuilt Accepted)
+    (goneOn z (settled (epochIn (w .client .rebuild)) (ownNode w)) w)))))
 
 -- "Unlock c, 1 to n: UNL; the nth ends the rebuild."
 unfoldable pub unlock : Sizes → ℕ → Whole → Outcome Whole
-unlock z c w = guard (outOfLimits z w) OutOfLimits w (guard (not (isClient z c)) OutOfRange w (unlockIn z c (w .client .rebuild) w))
+unlock z c w =
+    guard (outOfLimits z w) OutOfLimits w
+    (guard (not (isClient z c)) OutOfRange w
+    (guard (outOf unlocks w) OutOfPhase w
+    (holding (heldBy c (ownNode w)) c w
+    (answered Accepted (goneOn z (unlocked (ownNode w)) w)))))
 
 -- "Quit c: accepted, and leaves what answer 10 leaves." "3: quit with no rebuild"
 unfoldable pub quit : Sizes → ℕ → Whole → Outcome Whole

@@ -50,8 +50,13 @@ fits : (one two : Bool) → tests (not one) two ≡ Accepted → one ≡ true
 fits true two e = refl
 fits false two e = cc
 
+ranges : (one two : Bool) → tests one (not two) ≡ Accepted → two ≡ true
+ranges true two e = cc
+ranges false true e = refl
+ranges false false e = cc
+
 -- past them the records are within their limits
-pub admitted : {z : Sizes} (c : ℕ) {s : Seen} {y : ClientRecord} {a : NodeAnswer} → a ≡ entrance z c s y → a ≡ Accepted → Admitted z s y
+pub admitted : {z : Sizes} (c : ℕ) {s : Seen} {y : ClientRecord} {a : NodeAnswer} → a ≡ entrance z c s y → a ≡ Accepted → Admitted z c s y
 admitted {z} c {s} {y} e q =
     let all : (sizesWithin z && (s .within && clientWithin z (clientOf y))) ≡ true = fits _ (not (isClient z c)) (sym e ∙ q) in
     let records = and-right (sizesWithin z) _ all in
@@ -59,6 +64,7 @@ admitted {z} c {s} {y} e q =
       sizes = and-left (sizesWithin z) _ all;
       nodes = and-left (s .within) _ records;
       client = and-right (s .within) _ records;
+      number = ranges (not (sizesWithin z && (s .within && clientWithin z (clientOf y)))) (isClient z c) (sym e ∙ q);
     }
 
 -- the first test, by what was seen, is the machine's

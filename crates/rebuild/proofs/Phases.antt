@@ -1,19 +1,18 @@
 -- The phases of a rebuild: what the limits of the client's record say of the phase's node and epoch, and the calls out of their phase. Assumes nothing.
 use mathlib.Core.Path.{_≡_, refl, _∙_}
-use mathlib.Core.Logic.{_≢_}
-use mathlib.Core.Bool.{true, _&&_}
-use mathlib.Core.List.{[], _∷_}
-use Prim.Native.Nat.{ℕ, zero, suc, _≤_, _<_}
+use mathlib.Core.Logic.{_≢_, inl, inr}
+use mathlib.Core.Bool.{Bool, true, false, _&&_, not}
+use mathlib.Core.List.{List, [], _∷_}
+use Prim.Native.Nat.{ℕ, _≤_, _<_, max}
 use native.Mathlib.Omega.{arith}
-use lib.Dec.{leb, ltb}
-use borrow.Author.Tests.{leb-true, ltb-true, ne-eqb}
-use types.Run.{OneOf, miss}
+use lib.Dec.{eqb, leb, ltb}
+use borrow.Author.Tests.{leb-true, ltb-true, ne-eqb, not-true}
+use types.Run.{OneOf}
 use denote.Enum.Declared.{tagOf}
 use Rattle.basics.proofs.Tests.{and-left, and-right}
 use Rattle.code.specs.declared.nodes.NodeSet.{NodeSet}
-use Rattle.machine.specs.Stripe.{Whole, Accepted, answered, refused, nodeAt}
-use Rattle.basics.specs.Lists.{setAt}
-use Rattle.machine.specs.Rebuild.{advanced, holding, lockIn, tightenIn, writeIn, settleIn, unlockIn}
+use Rattle.machine.specs.Stripe.{Outcome, Whole, refused, guard}
+use Rattle.machine.specs.Rebuild.{phaseOf, outOf}
 use Rattle.entries.specs.declared.Epoch.{Epoch}
 use Rattle.records.specs.declared.Sizes.{Sizes}
 use Rattle.records.specs.declared.ClientRecord.{ClientRecord}
@@ -22,15 +21,16 @@ use Rattle.records.specs.declared.Phase.{Phase}
 use Rattle.records.specs.declared.Phase.the-variants.{NoRebuild, Locking, Picking, Writing, Settling, Unlocking}
 use Rattle.records.specs.declared.Refusal.the-variants.{OutOfPhase}
 use Rattle.records.specs.Sizes.{isNode, isRedundant}
-use Rattle.records.specs.Node.{epochLimit, heldBy, lockedBy, setWithin}
-use Rattle.records.specs.Client as Client
-use Rattle.records.specs.Client.{nextNode, nextRebuild, handWithin, rebuildWithin, clientWithin}
+use Rattle.records.specs.Node as Records
+use Rattle.records.specs.Node.{epochLimit, setWithin}
+use Rattle.records.specs.Client.{handWithin, rebuildWithin, clientWithin}
 use Rattle.records.specs.View.{rebuildOf, clientOf}
 use Rattle.records.proofs.Clients.{locking-within}
 use Rattle.records.proofs.Limits.{nodes-few}
 use Rattle.records.proofs.Phase.{the-type}
 use Rattle.stripe.specs.declared.seen.Seen.{Seen}
-use Rattle.rebuild.specs.Contracts.{Admitted, inPhase, atOwn}
+use Rattle.calls.specs.Answers.{whole}
+use Rattle.rebuild.specs.Contracts.{Admitted}
 
 -- ---- the phase's node
 
@@ -39,7 +39,7 @@ pub record Node (z : Sizes) (j : ℕ) : Type 0 where
   pub most : j ≤ z .n
   pub few : z .n ≤ 18
 
-module _ {z : Sizes} {s : Seen} {y : ClientRecord} (a : Admitted z s y) where
+module _ {z : Sizes} {c : ℕ} {s : Seen} {y : ClientRecord} (a : Admitted z c s y) where
   within : rebuildWithin z (clientOf y .rebuild) ≡ true
   unfolding clientWithin
   within = and-left _ _ (and-right (handWithin z (clientOf y .hand) (clientOf y .finished)) _ (a .client))
@@ -75,69 +75,32 @@ module _ {z : Sizes} {s : Seen} {y : ClientRecord} (a : Admitted z s y) where
       let w : (isNode z j && ltb (e .0) epochLimit) ≡ true = rw p at within in
       search (and-right, ltb-true)
 
--- a tighten while a node is left
-module _ (z : Sizes) (c : ℕ) (w : Whole) where
-  some-left : (j : ℕ) → j ≢ 0
-      → holding (heldBy c (nodeAt (w .nodes) j)) c w
-      (answered Accepted (advanced (setAt (w .nodes) j (lockedBy c (nodeAt (w .nodes) j))) (nextRebuild (z .n) (Client.Picking j)) w))
-      ≡ tightenIn z c (Client.Picking j) w
-  unfolding tightenIn
-  some-left zero some = absurd (some refl)
-  some-left (suc j) some = refl
+-- ---- the test of the phase
 
-  in-phase : (j : ℕ) → j ≢ 0 → (r : Client.Rebuild) → r ≡ Client.Picking j
-      → holding (heldBy c (nodeAt (w .nodes) (nextNode r))) c w
-      (answered Accepted (advanced (setAt (w .nodes) (nextNode r) (lockedBy c (nodeAt (w .nodes) (nextNode r)))) (nextRebuild (z .n) r) w))
-      ≡ tightenIn z c r w
-  in-phase j some r e = rw e (some-left j some)
+-- the phase by the position of the variant among the code's
+by-tag : (p : Phase) → phaseOf (rebuildOf p) ≡ max 1 (tagOf the-type p)
+by-tag NoRebuild = refl
+by-tag (Locking x expired) = refl
+by-tag (Picking j) = refl
+by-tag (Writing j set e) = refl
+by-tag (Settling j e) = refl
+by-tag (Unlocking j) = refl
 
-  pub tighten-some : (j : ℕ) → j ≢ 0 → w .client .rebuild ≡ Client.Picking j → atOwn (lockedBy c) z c w ≡ inPhase tightenIn z c w
-  tighten-some j some e = in-phase j some (w .client .rebuild) e
+-- none of the variants is of the phase
+unfoldable pub others : ℕ → List ℕ → Bool
+others phase [] = true
+others phase (tag ∷ tags) = not (eqb (max 1 tag) phase) && others phase tags
 
--- ---- out of phase
+none-of : (phase : ℕ) (tags : List ℕ) (x : ℕ) → OneOf tags x → others phase tags ≡ true → eqb (max 1 x) phase ≡ false
+unfolding others
+none-of phase [] x k e = absurd k
+none-of phase (tag ∷ []) x k e = rw k (not-true _ (and-left (not (eqb (max 1 tag) phase)) true e))
+none-of phase (tag ∷ next ∷ tags) x (inl k) e = rw k (not-true _ (and-left (not (eqb (max 1 tag) phase)) _ e))
+none-of phase (tag ∷ next ∷ tags) x (inr k) e = none-of phase (next ∷ tags) x k (and-right (not (eqb (max 1 tag) phase)) _ e)
 
-module _ (z : Sizes) (c : ℕ) (w : Whole) where
-  pub not-writing : (p : Phase) → OneOf (0 ∷ 1 ∷ 2 ∷ 4 ∷ 5 ∷ []) (tagOf the-type p) → refused OutOfPhase w ≡ writeIn z c (rebuildOf p) w
-  unfolding writeIn
-  not-writing NoRebuild k = refl
-  not-writing (Locking x expired) k = refl
-  not-writing (Picking j) k = refl
-  not-writing (Writing j set e) k = absurd (miss (0 ∷ 1 ∷ 2 ∷ 4 ∷ 5 ∷ []) 3 tt k)
-  not-writing (Settling j e) k = refl
-  not-writing (Unlocking j) k = refl
-
-  pub not-unlocking : (p : Phase) → OneOf (0 ∷ 1 ∷ 2 ∷ 3 ∷ 4 ∷ []) (tagOf the-type p) → refused OutOfPhase w ≡ unlockIn z c (rebuildOf p) w
-  unfolding unlockIn
-  not-unlocking NoRebuild k = refl
-  not-unlocking (Locking x expired) k = refl
-  not-unlocking (Picking j) k = refl
-  not-unlocking (Writing j set e) k = refl
-  not-unlocking (Settling j e) k = refl
-  not-unlocking (Unlocking j) k = absurd (miss (0 ∷ 1 ∷ 2 ∷ 3 ∷ 4 ∷ []) 5 tt k)
-
-  pub not-settling : (p : Phase) → OneOf (0 ∷ 1 ∷ 2 ∷ 3 ∷ 5 ∷ []) (tagOf the-type p) → refused OutOfPhase w ≡ settleIn z c (rebuildOf p) w
-  unfolding settleIn
-  not-settling NoRebuild k = refl
-  not-settling (Locking x expired) k = refl
-  not-settling (Picking j) k = refl
-  not-settling (Writing j set e) k = refl
-  not-settling (Settling j e) k = absurd (miss (0 ∷ 1 ∷ 2 ∷ 3 ∷ 5 ∷ []) 4 tt k)
-  not-settling (Unlocking j) k = refl
-
-  pub not-locking : (p : Phase) → OneOf (2 ∷ 3 ∷ 4 ∷ 5 ∷ []) (tagOf the-type p) → refused OutOfPhase w ≡ lockIn z c (rebuildOf p) w
-  unfolding lockIn
-  not-locking NoRebuild k = absurd (miss (2 ∷ 3 ∷ 4 ∷ 5 ∷ []) 0 tt k)
-  not-locking (Locking x expired) k = absurd (miss (2 ∷ 3 ∷ 4 ∷ 5 ∷ []) 1 tt k)
-  not-locking (Picking j) k = refl
-  not-locking (Writing j set e) k = refl
-  not-locking (Settling j e) k = refl
-  not-locking (Unlocking j) k = refl
-
-  pub not-tightening : (p : Phase) → OneOf (0 ∷ 1 ∷ 3 ∷ 4 ∷ 5 ∷ []) (tagOf the-type p) → refused OutOfPhase w ≡ tightenIn z c (rebuildOf p) w
-  unfolding tightenIn
-  not-tightening NoRebuild k = refl
-  not-tightening (Locking x expired) k = refl
-  not-tightening (Picking j) k = absurd (miss (0 ∷ 1 ∷ 3 ∷ 4 ∷ 5 ∷ []) 2 tt k)
-  not-tightening (Writing j set e) k = refl
-  not-tightening (Settling j e) k = refl
-  not-tightening (Unlocking j) k = refl
+-- a call out of its phase: the rebuild is in one of the other variants
+pub out-of-phase : (phase : ℕ) (tags : List ℕ) (y : ClientRecord) {nodes : List Records.Node} {blocks spare : List ℕ} (rest : Outcome Whole)
+    → OneOf tags (tagOf the-type (y .phase)) → others phase tags ≡ true
+    → let w = whole nodes (clientOf y) blocks spare in refused OutOfPhase w ≡ guard (outOf phase w) OutOfPhase w rest
+unfolding guard
+out-of-phase phase tags y rest k e = rw (by-tag (y .phase), none-of phase tags (tagOf the-type (y .phase)) k e)

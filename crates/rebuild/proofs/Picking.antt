@@ -1,17 +1,17 @@
 -- Pick and weaken, by the outcomes of their tests. Assumes nothing.
 use mathlib.Core.Path.{_≡_, refl, sym, ap, _∙_}
-use mathlib.Core.Bool.{true, false}
+use mathlib.Core.Bool.{Bool, true, false, cond, _&&_, not}
 use mathlib.Core.List.{List, [], _∷_, _++_, map}
 use Prim.Native.Nat.{ℕ, zero, suc, _+_, _≤_, _<_}
 use native.Mathlib.Omega.{arith}
 use lib.Dec.{eqb}
 use lib.ListN.{length, take, drop}
-use borrow.Author.Tests.{eqb-true, lt-ltb, le-ltb, le-leb, lt-leb}
+use borrow.Author.Tests.{lt-ltb, le-ltb, le-leb, lt-leb}
 use Rattle.basics.proofs.Tests.{and-right}
 use Rattle.code.specs.Decode.{size}
 use Rattle.machine.specs.Stripe.{Accepted, Outcome, answered, refused, guard, Whole}
 use Rattle.basics.specs.Lists.{everyOf, someOf}
-use Rattle.machine.specs.Rebuild.{advanced, holding, someRecons, pickedSet, neededSize, largestEpoch, picked, pickNow, pickIn, weakened, weakenIn}
+use Rattle.machine.specs.Rebuild.{picks, phaseOf, outOf, own, isWeakened, advanced, holding, someRecons, pickedSet, neededSize, largestEpoch, picked, pickNow, weakened}
 use Rattle.basics.proofs.Tests.{and-both, or-none}
 use Rattle.records.specs.declared.Sizes.{Sizes}
 use Rattle.records.specs.declared.ClientRecord.{ClientRecord}
@@ -19,7 +19,7 @@ use Rattle.records.specs.declared.Refusal.{Refusal}
 use Rattle.records.specs.declared.Refusal.the-variants.{OutOfPhase, Exhausted, TooFew}
 use Rattle.records.specs.Sizes.{sizesWithin}
 use Rattle.records.specs.Node.{Node, epochLimit, isRecons, heldBy, heldAtL1, weakenedBy}
-use Rattle.records.specs.Client.{Rebuild, NoRebuild, Locking, Picking, Writing, Settling, Unlocking}
+use Rattle.records.specs.Client.{Picking}
 use Rattle.records.specs.View.{clientOf}
 use Rattle.stripe.specs.declared.nodes.Nodes.{Nodes}
 use Rattle.stripe.specs.declared.seen.Seen.{Seen}
@@ -54,7 +54,7 @@ module _ (z : Sizes) (x : Nodes) {y : ClientRecord} {blocks spare : List ℕ} {o
   picks-as m q = record { said = m .said ∙ q; left = m .left }
 
 -- past the tests of a pick
-pub pick-admitted : {z : Sizes} {c : ℕ} (x : Nodes) {s : Seen} {y : ClientRecord} → (sizesWithin z ≡ true → Sees z c (nodesOf (z .n) x) s) → Admitted z s y
+pub pick-admitted : {z : Sizes} {c : ℕ} (x : Nodes) {s : Seen} {y : ClientRecord} → (sizesWithin z ≡ true → Sees z c (nodesOf (z .n) x) s) → Admitted z c s y
     → PickAdmitted z x
 pick-admitted {z} {c} x {s} sees a = record {
   sizes = a .sizes;
@@ -113,56 +113,45 @@ module _ (z : Sizes) (c : ℕ) (w : Whole) where
 
 -- ---- the phase
 
-picking-zero : (r : Rebuild) → isPicking r ≡ true → r ≡ Picking 0
-picking-zero NoRebuild e = cc
-picking-zero (Locking old) e = cc
-picking-zero (Picking j) e = rw (eqb-true j 0 e)
-picking-zero (Writing j set epoch) e = cc
-picking-zero (Settling j epoch) e = cc
-picking-zero (Unlocking j) e = cc
+-- what is left of a pick or a weaken past 1 and 2
+module _ (w : Whole) where
+  abbrev pub inPicks : Outcome Whole → Outcome Whole
+  inPicks rest = guard (outOf picks w) OutOfPhase w (guard (isWeakened w) OutOfPhase w rest)
 
-module _ (z : Sizes) (c : ℕ) (w : Whole) (r : Rebuild) where
-  pub pick-out : isPicking r ≡ false → refused OutOfPhase w ≡ pickIn z c r w
-  unfolding pickIn
-  pick-out e = by r e
+  pub picks-out : (rest : Outcome Whole) → isPicking (w .client .rebuild) ≡ false → refused OutOfPhase w ≡ inPicks rest
+  unfolding guard
+  picks-out rest e = by (eqb (phaseOf (w .client .rebuild)) picks) (eqb (own w) 0) e
     where
-      by : (r : Rebuild) → isPicking r ≡ false → refused OutOfPhase w ≡ pickIn z c r w
-      by NoRebuild e = refl
-      by (Locking old) e = refl
-      by (Picking zero) e = cc
-      by (Picking (suc t)) e = refl
-      by (Writing j set epoch) e = refl
-      by (Settling j epoch) e = refl
-      by (Unlocking j) e = refl
+      by : (phase none : Bool) → (phase && none) ≡ false
+          → refused OutOfPhase w ≡ cond (not phase) (refused OutOfPhase w) (cond (not none) (refused OutOfPhase w) rest)
+      by true true e = cc
+      by true false e = refl
+      by false none e = refl
 
-  pub weaken-out : isPicking r ≡ false → refused OutOfPhase w ≡ weakenIn z c r w
-  unfolding weakenIn
-  weaken-out e = by r e
-    where
-      by : (r : Rebuild) → isPicking r ≡ false → refused OutOfPhase w ≡ weakenIn z c r w
-      by NoRebuild e = refl
-      by (Locking old) e = refl
-      by (Picking zero) e = cc
-      by (Picking (suc t)) e = refl
-      by (Writing j set epoch) e = refl
-      by (Settling j epoch) e = refl
-      by (Unlocking j) e = refl
+  module _ (e : isPicking (w .client .rebuild) ≡ true) where
+    pub picks-in : (rest : Outcome Whole) → rest ≡ inPicks rest
+    unfolding guard
+    picks-in rest = let both = and-both (eqb (phaseOf (w .client .rebuild)) picks) (eqb (own w) 0) e in rw (both .0, both .1)
 
-  module _ (e : isPicking r ≡ true) where
-    pub pick-in : pickNow z c w ≡ pickIn z c r w
-    unfolding pickIn
-    pick-in = rw (picking-zero r e)
+    module _ (z : Sizes) (c : ℕ) where
+      -- what is left of a weaken
+      abbrev weaken-left : Outcome Whole
+      weaken-left =
+          guard (someRecons (w .nodes)) OutOfPhase w
+          (holding (everyOf (heldBy c) (w .nodes)) c w (answered Accepted (advanced (weakened z c (w .nodes)) (Picking (z .k + 1)) w)))
 
-    pub weaken-recons : someRecons (w .nodes) ≡ true → refused OutOfPhase w ≡ weakenIn z c r w
-    unfolding weakenIn guard
-    weaken-recons some = rw (picking-zero r e, some)
+      pub weaken-recons : someRecons (w .nodes) ≡ true → refused OutOfPhase w ≡ inPicks weaken-left
+      unfolding guard
+      weaken-recons some = let e : refused OutOfPhase w ≡ weaken-left = rw some in e ∙ picks-in weaken-left
 
-    module _ (none : someRecons (w .nodes) ≡ false) where
-      pub weaken-lost : everyOf (heldBy c) (w .nodes) ≡ false → notHeld z c w ≡ weakenIn z c r w
-      unfolding weakenIn guard holding
-      weaken-lost held = rw (picking-zero r e, none, held)
+      module _ (none : someRecons (w .nodes) ≡ false) where
+        pub weaken-lost : everyOf (heldBy c) (w .nodes) ≡ false → notHeld z c w ≡ inPicks weaken-left
+        unfolding guard holding
+        weaken-lost held = let e : notHeld z c w ≡ weaken-left = rw (none, held) in e ∙ picks-in weaken-left
 
-      pub weaken-held : everyOf (heldBy c) (w .nodes) ≡ true
-          → answered Accepted (advanced (weakened z c (w .nodes)) (Picking (z .k + 1)) w) ≡ weakenIn z c r w
-      unfolding weakenIn guard holding
-      weaken-held held = rw (picking-zero r e, none, held)
+        pub weaken-held : everyOf (heldBy c) (w .nodes) ≡ true
+            → answered Accepted (advanced (weakened z c (w .nodes)) (Picking (z .k + 1)) w) ≡ inPicks weaken-left
+        unfolding guard holding
+        weaken-held held =
+            let e : answered Accepted (advanced (weakened z c (w .nodes)) (Picking (z .k + 1)) w) ≡ weaken-left = rw (none, held) in
+            e ∙ picks-in weaken-left

@@ -27,7 +27,7 @@ use Rattle.calls.specs.declared.Answer.the-variants.{Refused}
 use Rattle.calls.specs.Answers.{Left, answerOf, whole}
 use Rattle.calls.proofs.Left.{unchanged}
 use Rattle.rebuild.specs.declared.Stepped.{Stepped}
-use Rattle.rebuild.specs.Contracts.{own, Told, Stepping, entrance}
+use Rattle.rebuild.specs.Contracts.{own, Told, Stepping, Admitted, entrance}
 use Rattle.rebuild.proofs.Limits.{passed, failed, limits-seen}
 
 -- what the node's answer tells of it
@@ -73,6 +73,13 @@ module _ {z : Sizes} {c : ℕ} {nodes : List Node} {s : Seen} {x : NodeRecord} {
     -- as a part of the call steps, which is what the whole does here
     pub steps-as : {part : Outcome Whole} → Stepping part nodes x y blocks spare r → part ≡ o → Stepping o nodes x y blocks spare r
     steps-as m q = record { said = m .said ∙ q; left = m .left }
+
+  -- past its tests a call is what is left of it
+  pub steps-past : {blocks spare : List ℕ} {r : Stepped} {rest : Outcome Whole} → Admitted z c s y → Stepping rest nodes x y blocks spare r
+      → Stepping (called z c (whole nodes (clientOf y) blocks spare) rest) nodes x y blocks spare r
+  steps-past {blocks} {spare} {rest = rest} a m =
+      let w = whole nodes (clientOf y) blocks spare in
+      steps-as m (sym (passed w rest (outOfLimits z w) (not (isClient z c)) (rw (← limits-seen (t .sees) y blocks spare, a .sizes, a .nodes, a .client, a .number))))
 
   -- a test of the own node
   pub asked : (p : Node → Bool) {b : Bool} → p (nodeOf x) ≡ b → p (nodeAt nodes (own y)) ≡ b

@@ -4,7 +4,7 @@ use mathlib.Core.Bool.{Bool, true, false, cond, _&&_, _||_, not}
 use mathlib.Core.List.{List}
 use Prim.Native.Nat.{ℕ, _*_}
 use lib.ListN.{length}
-use borrow.Author.Tests.{eqb-true, not-false}
+use borrow.Author.Tests.{eqb-true, eq-eqb, not-false}
 use Rattle.basics.proofs.Tests.{and-left, and-right}
 use Rattle.machine.specs.Stripe.{Outcome, Whole, refused, guard, blocksFit}
 use Rattle.machine.specs.Rebuild.{outOfLimits}
@@ -42,7 +42,7 @@ module _ (z : Sizes) (c : ℕ) (s : Seen) (y : ClientRecord) (blocks spare : Lis
     both : (not (sizesWithin z && (s .within && clientWithin z (clientOf y))) ≡ false) × (not (tablesFit z blocks spare) ≡ false)
     both = or-none (not (sizesWithin z && (s .within && clientWithin z (clientOf y)))) (not (tablesFit z blocks spare)) inside
 
-    pub tabled-admitted : Admitted z s y
+    pub tabled-admitted : Admitted z c s y
     tabled-admitted = admitted c {s = s} {y = y} (e ∙ rw (inside, both .0)) q
 
     pub tabled-tables : Tables z blocks spare
@@ -68,3 +68,10 @@ module _ (z : Sizes) (c : ℕ) (s : Seen) (y : ClientRecord) (blocks spare : Lis
     tabled-passed rest q =
         let w = whole nodes (clientOf y) blocks spare in
         sym (passed w rest (outOfLimits z w || not (tablesFit z blocks spare)) (not (isClient z c)) (sym seen ∙ sym e ∙ q))
+
+-- past its tests a call is what is left of it
+pub tabled-past : (z : Sizes) (c : ℕ) (s : Seen) (y : ClientRecord) (blocks spare : List ℕ) {nodes : List Node} → (sizesWithin z ≡ true → Sees z c nodes s)
+    → Admitted z c s y → Tables z blocks spare → (rest : Outcome Whole) → rest ≡ called z c (whole nodes (clientOf y) blocks spare) rest
+tabled-past z c s y blocks spare sees a t rest =
+    tabled-passed z c s y blocks spare {a = Accepted}
+    (rw (a .sizes, a .nodes, a .client, a .number, eq-eqb (length blocks) (z .n * z .b) (t .full), eq-eqb (length spare) (z .n * z .b) (t .room))) sees rest refl

@@ -7,7 +7,7 @@ use Prim.Native.Nat.{ℕ}
 use Rattle.machine.specs.Stripe as Stripe
 use Rattle.machine.specs.Stripe.{Outcome, Whole, answered, nodeAt}
 use Rattle.basics.specs.Lists.{setAt}
-use Rattle.machine.specs.Rebuild.{advanced, lost, holding, lockNode}
+use Rattle.machine.specs.Rebuild.{ownNode, goneOn, lost, holding, lockNode}
 use Rattle.records.specs.declared.Sizes.{Sizes}
 use Rattle.records.specs.declared.NodeRecord.{NodeRecord}
 use Rattle.records.specs.declared.ClientRecord.{ClientRecord}
@@ -16,7 +16,7 @@ use Rattle.records.specs.declared.NodeAnswer.the-variants.{Accepted, Refused}
 use Rattle.records.specs.declared.Refusal.the-variants.{OutOfLimits, OutOfRange, NotHeld}
 use Rattle.records.specs.Sizes.{sizesWithin, isClient}
 use Rattle.records.specs.Node.{Node, heldBy}
-use Rattle.records.specs.Client.{Rebuild, nextNode, nextRebuild, remembered, clientWithin}
+use Rattle.records.specs.Client.{nextNode, remembered, clientWithin}
 use Rattle.records.specs.View.{nodeOf, clientOf}
 use Rattle.stripe.specs.declared.seen.Seen.{Seen}
 use Rattle.stripe.specs.Seen.{Sees, keep, applied}
@@ -55,18 +55,15 @@ entrance z c seen client =
     (cond (not (isClient z c)) (Refused OutOfRange) Accepted)
 
 -- what is known past them
-pub record Admitted (z : Sizes) (x : Seen) (y : ClientRecord) : Type 0 where
+pub record Admitted (z : Sizes) (c : ℕ) (x : Seen) (y : ClientRecord) : Type 0 where
   pub sizes : sizesWithin z ≡ true
   pub nodes : x .within ≡ true
   pub client : clientWithin z (clientOf y) ≡ true
-
--- the rest of a call, by the phase that its client's rebuild is in
-abbrev pub inPhase : (Sizes → ℕ → Rebuild → Whole → Outcome Whole) → Sizes → ℕ → Whole → Outcome Whole
-inPhase call z c w = call z c (w .client .rebuild) w
+  pub number : isClient z c ≡ true
 
 -- a lock of the next node, after those that are remembered
-abbrev pub lockNext : Sizes → ℕ → Rebuild → Whole → Outcome Whole
-lockNext z c r w = lockNode z c (remembered r) w
+abbrev pub lockNext : Sizes → ℕ → Whole → Outcome Whole
+lockNext z c w = lockNode z c (remembered (w .client .rebuild)) w
 
 -- answer 10
 abbrev pub notHeld : Sizes → ℕ → Whole → Outcome Whole
@@ -74,8 +71,4 @@ notHeld z c w = answered (Stripe.Refused NotHeld) (lost c w)
 
 -- a call that needs its own node alone, and then goes on with the next: `after` is what it makes of the node
 abbrev pub atOwn : (Node → Node) → Sizes → ℕ → Whole → Outcome Whole
-atOwn after z c w =
-    let j = nextNode (w .client .rebuild) in
-    let x = nodeAt (w .nodes) j in
-    holding (heldBy c x) c w
-    (answered Stripe.Accepted (advanced (setAt (w .nodes) j (after x)) (nextRebuild (z .n) (w .client .rebuild)) w))
+atOwn after z c w = holding (heldBy c (ownNode w)) c w (answered Stripe.Accepted (goneOn z (after (ownNode w)) w))

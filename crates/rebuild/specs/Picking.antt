@@ -1,5 +1,5 @@
 -- Pick and weaken: their phase, and what the contract of a pick says, which looks at all records. Assumes nothing.
-use mathlib.Core.Bool.{Bool, true, false, not}
+use mathlib.Core.Bool.{Bool, true, _&&_, not}
 use mathlib.Core.List.{List, []}
 use mathlib.Core.Path.{_≡_}
 use Prim.Native.Nat.{ℕ}
@@ -7,13 +7,13 @@ use lib.Dec.{eqb, ltb}
 use Rattle.code.specs.Decode.{size, lowest, invertible}
 use Rattle.machine.specs.Stripe.{Accepted, Outcome, answered, guard, Whole}
 use Rattle.basics.specs.Lists.{everyOf}
-use Rattle.machine.specs.Rebuild.{pickedSet, neededSize, picked}
+use Rattle.machine.specs.Rebuild.{picks, phaseOf, pickedSet, neededSize, picked}
 use Rattle.records.specs.declared.Sizes.{Sizes}
 use Rattle.records.specs.declared.ClientRecord.{ClientRecord}
 use Rattle.records.specs.declared.Refusal.the-variants.{TooFew, NoInverse}
 use Rattle.records.specs.Sizes.{sizesWithin}
 use Rattle.records.specs.Node.{nodeWithin}
-use Rattle.records.specs.Client.{Rebuild, NoRebuild, Locking, Picking, Writing, Settling, Unlocking}
+use Rattle.records.specs.Client.{Rebuild, nextNode}
 use Rattle.records.specs.View.{clientOf}
 use Rattle.stripe.specs.declared.nodes.Nodes.{Nodes}
 use Rattle.stripe.specs.Seen.{keep, applied}
@@ -23,12 +23,7 @@ use Rattle.rebuild.specs.declared.Picked.{Picked}
 
 -- all nodes locked, and each one weakened before tightened again
 abbrev pub isPicking : Rebuild → Bool
-isPicking NoRebuild = false
-isPicking (Locking old) = false
-isPicking (Picking j) = eqb j 0
-isPicking (Writing j set e) = false
-isPicking (Settling j e) = false
-isPicking (Unlocking j) = false
+isPicking r = eqb (phaseOf r) picks && eqb (nextNode r) 0
 
 -- a pick with all nodes held, once E is known
 unfoldable pub pickHeld : Sizes → ℕ → Whole → Outcome Whole

@@ -4,7 +4,7 @@ ghost use Prim.Native.Nat.{_+_, _≤_, _<_};
 ghost use Rattle.machine.specs.Rebuild as Rebuild;
 ghost use Rattle.records.specs.Client.{remembered};
 ghost use Rattle.records.specs.View.{oldLmodes, clientOf};
-ghost use Rattle.rebuild.specs.Contracts.{own, Steps, Admitted, inPhase, lockNext};
+ghost use Rattle.rebuild.specs.Contracts.{own, Steps, Admitted, lockNext};
 use crate::Stepped;
 use crate::admission::entrance;
 use crate::admission::go_on;
@@ -30,7 +30,7 @@ fn lock_node(
     expired: NodeSet,
 ) -> Stepped
     requires { ⌜ (z .n ≤ 18) × ((x < z .n) × ((remembered (clientOf client .rebuild) ≡ oldLmodes x expired) × (own client ≡ x + 1))) ⌝ }
-    ensures { λ r. ⌜ Steps (inPhase lockNext) z c seen node client r ⌝ }
+    ensures { λ r. ⌜ Steps lockNext z c seen node client r ⌝ }
 {
     let old = node.lmode;
     let step = node.lock(c);
@@ -51,8 +51,8 @@ fn lock_node(
 }
 
 fn lock_in(z: Sizes, c: u8, seen: Seen, node: NodeRecord, client: ClientRecord) -> Stepped
-    requires { ⌜ Admitted z seen client ⌝ }
-    ensures { λ r. ⌜ Steps (inPhase Rebuild.lockIn) z c seen node client r ⌝ }
+    requires { ⌜ Admitted z c seen client ⌝ }
+    ensures { λ r. ⌜ Steps Rebuild.lock z c seen node client r ⌝ }
 {
     let phase = client.phase;
     match phase {
@@ -73,8 +73,8 @@ pub fn lock(z: Sizes, c: u8, seen: Seen, node: NodeRecord, client: ClientRecord)
 }
 
 fn tighten_in(z: Sizes, c: u8, seen: Seen, node: NodeRecord, client: ClientRecord) -> Stepped
-    requires { ⌜ Admitted z seen client ⌝ }
-    ensures { λ r. ⌜ Steps (inPhase Rebuild.tightenIn) z c seen node client r ⌝ }
+    requires { ⌜ Admitted z c seen client ⌝ }
+    ensures { λ r. ⌜ Steps Rebuild.tighten z c seen node client r ⌝ }
 {
     let phase = client.phase;
     match phase {
@@ -100,8 +100,8 @@ pub fn tighten(z: Sizes, c: u8, seen: Seen, node: NodeRecord, client: ClientReco
 }
 
 fn unlock_in(z: Sizes, c: u8, seen: Seen, node: NodeRecord, client: ClientRecord) -> Stepped
-    requires { ⌜ Admitted z seen client ⌝ }
-    ensures { λ r. ⌜ Steps (inPhase Rebuild.unlockIn) z c seen node client r ⌝ }
+    requires { ⌜ Admitted z c seen client ⌝ }
+    ensures { λ r. ⌜ Steps Rebuild.unlock z c seen node client r ⌝ }
 {
     let phase = client.phase;
     match phase {

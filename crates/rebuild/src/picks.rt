@@ -5,7 +5,7 @@ ghost use Rattle.machine.specs.Rebuild as Rebuild;
 ghost use Rattle.machine.specs.Rebuild.{pickNow};
 ghost use Rattle.records.specs.View.{clientOf};
 ghost use Rattle.stripe.specs.Seen.{keep};
-ghost use Rattle.rebuild.specs.Contracts.{Steps, Admitted, inPhase};
+ghost use Rattle.rebuild.specs.Contracts.{Steps, Admitted};
 ghost use Rattle.rebuild.specs.Picking.{isPicking, pickHeld, seenWhole, Picks, PickAdmitted};
 ghost use Rattle.rebuild.specs.Tables.{Tables};
 use crate::Picked;
@@ -42,8 +42,8 @@ fn is_picking(client: ClientRecord) -> bool
 
 // A weaken in its phase.
 fn weaken_now(z: Sizes, c: u8, seen: Seen, node: NodeRecord, client: ClientRecord) -> Stepped
-    requires { ⌜ Admitted z seen client × (isPicking (clientOf client .rebuild) ≡ true) ⌝ }
-    ensures { λ r. ⌜ Steps (inPhase Rebuild.weakenIn) z c seen node client r ⌝ }
+    requires { ⌜ Admitted z c seen client × (isPicking (clientOf client .rebuild) ≡ true) ⌝ }
+    ensures { λ r. ⌜ Steps Rebuild.weaken z c seen node client r ⌝ }
 {
     if seen.recons {
         return Stepped::refused(node, client, Refusal::OutOfPhase);

@@ -3,7 +3,7 @@ ghost use mathlib.Core.Bool.{cond};
 ghost use mathlib.Core.Path.{_≡_};
 ghost use lib.Dec.{leb};
 ghost use Rattle.machine.specs.Rebuild as Rebuild;
-ghost use Rattle.rebuild.specs.Contracts.{Steps, Admitted, inPhase};
+ghost use Rattle.rebuild.specs.Contracts.{Steps, Admitted};
 use crate::Stepped;
 use crate::admission::entrance;
 use calls::Answer;
@@ -37,8 +37,8 @@ fn settle_node(
     j: u8,
     e: Epoch,
 ) -> Stepped
-    requires { ⌜ Admitted z seen client × (client .phase ≡ Phase.Settling j e) ⌝ }
-    ensures { λ r. ⌜ Steps (inPhase Rebuild.settleIn) z c seen node client r ⌝ }
+    requires { ⌜ Admitted z c seen client × (client .phase ≡ Phase.Settling j e) ⌝ }
+    ensures { λ r. ⌜ Steps Rebuild.settle z c seen node client r ⌝ }
 {
     if !seen.held {
         return Stepped::lost(z, c, seen, node, client);
@@ -56,8 +56,8 @@ fn settle_node(
 }
 
 fn settle_in(z: Sizes, c: u8, seen: Seen, node: NodeRecord, client: ClientRecord) -> Stepped
-    requires { ⌜ Admitted z seen client ⌝ }
-    ensures { λ r. ⌜ Steps (inPhase Rebuild.settleIn) z c seen node client r ⌝ }
+    requires { ⌜ Admitted z c seen client ⌝ }
+    ensures { λ r. ⌜ Steps Rebuild.settle z c seen node client r ⌝ }
 {
     let phase = client.phase;
     match phase {

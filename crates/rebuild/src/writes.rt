@@ -8,7 +8,7 @@ ghost use Rattle.machine.specs.Rebuild as Rebuild;
 ghost use Rattle.records.specs.Node.{Node};
 ghost use Rattle.records.specs.View.{clientOf};
 ghost use Rattle.calls.specs.Answers.{whole};
-ghost use Rattle.rebuild.specs.Contracts.{Told, Stepping, Admitted, inPhase};
+ghost use Rattle.rebuild.specs.Contracts.{Told, Stepping, Admitted};
 ghost use Rattle.rebuild.specs.Tables.{Tables};
 use crate::Stepped;
 use crate::tables::tabled_entrance;
@@ -46,9 +46,9 @@ fn write_node(
     blocks: &mut [u8],
     spare: &[u8],
 ) -> Stepped
-    requires { ⌜ Admitted z seen client × (client .phase ≡ Phase.Writing j set e) × Tables z (now blocks) (now spare) ⌝ }
+    requires { ⌜ Admitted z c seen client × (client .phase ≡ Phase.Writing j set e) × Tables z (now blocks) (now spare) ⌝ }
     ensures { λ r. ⌜ ((nodes : List Node) → Told z c nodes seen node client →
-        Stepping (inPhase Rebuild.writeIn z c (whole nodes (clientOf client) (now (blocks .entry)) (now (spare .entry))))
+        Stepping (Rebuild.write z c (whole nodes (clientOf client) (now (blocks .entry)) (now (spare .entry))))
         nodes node client (now (blocks .exit)) (now (spare .entry)) r) ⌝ }
 {
     let step = node.write(c, e, set);
@@ -71,9 +71,9 @@ fn write_in(
     blocks: &mut [u8],
     spare: &[u8],
 ) -> Stepped
-    requires { ⌜ Admitted z seen client × Tables z (now blocks) (now spare) ⌝ }
+    requires { ⌜ Admitted z c seen client × Tables z (now blocks) (now spare) ⌝ }
     ensures { λ r. ⌜ ((nodes : List Node) → Told z c nodes seen node client →
-        Stepping (inPhase Rebuild.writeIn z c (whole nodes (clientOf client) (now (blocks .entry)) (now (spare .entry))))
+        Stepping (Rebuild.write z c (whole nodes (clientOf client) (now (blocks .entry)) (now (spare .entry))))
         nodes node client (now (blocks .exit)) (now (spare .entry)) r) ⌝ }
 {
     let phase = client.phase;

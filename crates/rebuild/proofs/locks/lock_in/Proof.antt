@@ -1,12 +1,15 @@
 -- By the phase. Assumes nothing.
+use mathlib.Core.Path.{refl}
+use mathlib.Core.List.{[], _∷_}
 use borrow.Author.Needs.{needs}
 use Rattle.basics.specs.Lists.{listOf}
 use Rattle.basics.proofs.Lists.{length-listOf}
-use Rattle.machine.specs.Rebuild.{lockIn}
+use Rattle.machine.specs.Stripe.{guard}
+use Rattle.machine.specs.Rebuild.{lock, locks}
 use Rattle.records.proofs.Limits.{nodes-few}
 use Rattle.rebuild.proofs.Limits.{sizes-known}
-use Rattle.rebuild.proofs.Phases.{locking, not-locking}
-use Rattle.rebuild.proofs.Stepping.{steps-refused, steps-as}
+use Rattle.rebuild.proofs.Phases.{locking, others, out-of-phase}
+use Rattle.rebuild.proofs.Stepping.{steps-refused, steps-as, steps-past}
 use Rattle.rebuild.proofs.locks.lock_in.Statement.{statement}
 use Rattle.rebuild.proofs.locks.lock_in.Tie as tie
 
@@ -24,7 +27,7 @@ lock-node-requires-2 c κs =
     (nodes-few _ (s .pre .sizes), (locking (s .pre) p, (rw p, rw (p, length-listOf (c .before .phase .given .0 .0) _))))
 
 pub lock-in-spec : {M : Type 1} → statement M
-unfolding lockIn
+unfolding lock guard others
 lock-in-spec =
     tie.close
     (tie.spec
@@ -34,8 +37,12 @@ lock-in-spec =
     (λ c. search needs)
     lock-node-requires-2
     (λ c κs. search needs)
-    (λ c nodes blocks spare t. steps-as t (c .lock-node .ensures nodes blocks spare t) (rw (c .before .before .enum-told .given .1)))
-    (λ c nodes blocks spare t. steps-as t (c .lock-node2 .ensures nodes blocks spare t) (rw (c .before .before .phase .given .1)))
     (λ c nodes blocks spare t.
-    let a = c .before .before .args in
-    steps-refused t (c .refused .ensures) (not-locking (a .z) (a .c) _ (a .client .phase) (c .before .match .keys3))))
+    let told = c .before .before in
+    steps-past t (told .before .before .pre) (steps-as t (c .lock-node .ensures nodes blocks spare t) (rw (told .enum-told .given .1))))
+    (λ c nodes blocks spare t.
+    let told = c .before .before in
+    steps-past t (told .before .before .pre) (steps-as t (c .lock-node2 .ensures nodes blocks spare t) (rw (told .phase .given .1))))
+    (λ c nodes blocks spare t.
+    let s = c .before .before in
+    steps-past t (s .pre) (steps-refused t (c .refused .ensures) (out-of-phase locks (2 ∷ 3 ∷ 4 ∷ 5 ∷ []) (s .args .client) _ (c .before .match .keys3) refl))))

@@ -2,9 +2,8 @@
 use mathlib.Core.Path.{sym, _∙_}
 use borrow.Author.Needs.{needs}
 use Rattle.machine.specs.Rebuild.{pick, pickNow}
-use Rattle.records.specs.View.{clientOf}
 use Rattle.rebuild.specs.Picking.{seenWhole}
-use Rattle.rebuild.proofs.Picking.{picks-refused, picks-as, pick-admitted, pick-in, pick-out}
+use Rattle.rebuild.proofs.Picking.{picks-refused, picks-as, pick-admitted, picks-in, picks-out}
 use Rattle.rebuild.proofs.Tabled.{tabled-admitted, tabled-tables, tabled-failed, tabled-passed}
 use Rattle.rebuild.proofs.picks.pick.Statement.{statement}
 use Rattle.rebuild.proofs.picks.pick.Tie as tie
@@ -41,7 +40,7 @@ returns-2 c =
     let a = looked .before .before .before .args in
     let w = seenWhole (a .z) (a .nodes) (a .client) (a .blocks .now) (a .spare .now) in
     picks-as (a .z) (a .nodes) {part = pickNow (a .z) (a .c) w} (played .pick-now .ensures)
-    (pick-in (a .z) (a .c) w (clientOf (a .client) .rebuild) (sym (taken .before .is-picking .ensures) ∙ taken .if1 .taken)
+    (picks-in w (sym (taken .before .is-picking .ensures) ∙ taken .if1 .taken) (pickNow (a .z) (a .c) w)
     ∙ tabled-passed (a .z) (a .c) (looked .see .result) (a .client) (a .blocks .now) (a .spare .now) (tested .tabled-entrance .ensures) (looked .see .ensures) _
     (told .enum-told .given .1))
 
@@ -55,7 +54,7 @@ returns-3 c =
     let a = looked .before .before .before .args in
     let w = seenWhole (a .z) (a .nodes) (a .client) (a .blocks .now) (a .spare .now) in
     picks-refused (a .z) (a .nodes) (c .refused2 .ensures)
-    (pick-out (a .z) (a .c) w (clientOf (a .client) .rebuild) (sym (left .before .is-picking .ensures) ∙ left .if1 .left)
+    (picks-out w (pickNow (a .z) (a .c) w) (sym (left .before .is-picking .ensures) ∙ left .if1 .left)
     ∙ tabled-passed (a .z) (a .c) (looked .see .result) (a .client) (a .blocks .now) (a .spare .now) (tested .tabled-entrance .ensures) (looked .see .ensures) _
     (told .enum-told .given .1))
 

@@ -5,7 +5,7 @@ use Rattle.machine.specs.Rebuild.{weaken}
 use Rattle.records.specs.View.{clientOf}
 use Rattle.calls.specs.Answers.{whole}
 use Rattle.rebuild.proofs.Limits.{admitted}
-use Rattle.rebuild.proofs.Picking.{weaken-out}
+use Rattle.rebuild.proofs.Picking.{picks-out}
 use Rattle.rebuild.proofs.Stepping.{steps-refused, steps-turned, steps-on}
 use Rattle.rebuild.proofs.picks.weaken.Statement.{statement}
 use Rattle.rebuild.proofs.picks.weaken.Tie as tie
@@ -21,12 +21,6 @@ returns : tie.Need-returns
 unfolding weaken
 returns c nodes blocks spare t = steps-turned t (c .before .before .before .before .entrance .ensures) _ (c .before .before .why .given .1) (c .refused .ensures)
 
-returns-2 : tie.Need-returns-2
-unfolding weaken
-returns-2 c nodes blocks spare t =
-    let told = c .before .before .before in
-    steps-on t (told .before .before .entrance .ensures) (told .enum-told .given .1) (c .weaken-now .ensures nodes blocks spare t)
-
 returns-3 : tie.Need-returns-3
 unfolding weaken
 returns-3 c nodes blocks spare t =
@@ -36,8 +30,7 @@ returns-3 c nodes blocks spare t =
     let a = entered .before .args in
     steps-on t (entered .entrance .ensures) (told .enum-told .given .1)
     (steps-refused t (c .refused2 .ensures)
-    (weaken-out (a .z) (a .c) (whole nodes (clientOf (a .client)) blocks spare) (clientOf (a .client) .rebuild)
-    (sym (left .before .is-picking .ensures) ∙ left .if1 .left)))
+    (picks-out (whole nodes (clientOf (a .client)) blocks spare) _ (sym (left .before .is-picking .ensures) ∙ left .if1 .left)))
 
 pub weaken-spec : {M : Type 1} → statement M
 weaken-spec =
@@ -51,5 +44,5 @@ weaken-spec =
     weaken-now-requires
     (λ c κs. search needs)
     returns
-    returns-2
+    (λ c. c .weaken-now .ensures)
     returns-3)

@@ -9,9 +9,9 @@ use borrow.Author.Needs.{needs}
 use borrow.Author.Tests.{eqb-true, not-true, not-false}
 use Rattle.basics.proofs.Tests.{and-left}
 use Rattle.machine.specs.Stripe as Stripe
-use Rattle.machine.specs.Stripe.{nodeAt}
+use Rattle.machine.specs.Stripe.{guard, nodeAt}
 use Rattle.basics.specs.Lists.{everyOf}
-use Rattle.machine.specs.Rebuild.{settleIn, holding}
+use Rattle.machine.specs.Rebuild.{settle, holding}
 use Rattle.basics.proofs.Tests.{clash}
 use Rattle.basics.proofs.Lists.{every-at}
 use Rattle.records.specs.declared.Sizes.{Sizes}
@@ -24,7 +24,7 @@ use Rattle.stripe.specs.declared.seen.Seen.{Seen}
 use Rattle.stripe.specs.Seen.{Sees}
 use Rattle.rebuild.proofs.Phases as Phases
 use Rattle.rebuild.proofs.Phases.{settling, settling-epoch}
-use Rattle.rebuild.proofs.Stepping.{steps-made, steps-as, held-refused, own-in}
+use Rattle.rebuild.proofs.Stepping.{steps-made, steps-as, steps-past, held-refused, own-in}
 use Rattle.rebuild.proofs.settles.settle_node.Statement.{statement}
 use Rattle.rebuild.proofs.settles.settle_node.Tie as tie
 
@@ -44,12 +44,12 @@ own-held {z} {c} {nodes} {s} {j} sees within held node =
     every-at failedNode (heldBy c) nodes (sym (sees .held) ∙ held) j (node .least) (rw count (node .most))
 
 returns : tie.Need-returns
-unfolding settleIn holding
+unfolding settle guard holding
 returns c nodes blocks spare t =
     let s = c .before .before .before in
     let a = s .args in
     let lost : everyOf (heldBy (a .c)) nodes ≡ false = sym (t .sees (s .pre .0 .sizes) .held) ∙ not-true _ (c .before .if1 .taken) in
-    steps-as t (c .lost .ensures nodes blocks spare t) (rw (s .pre .1, lost))
+    steps-past t (s .pre .0) (steps-as t (c .lost .ensures nodes blocks spare t) (rw (s .pre .1, lost)))
 
 returns-2 : tie.Need-returns-2
 returns-2 c nodes blocks spare t =
@@ -64,7 +64,7 @@ returns-2 c nodes blocks spare t =
     clash own (sym (ap (heldBy (a .c)) at) ∙ held-refused (heldBy (a .c) (nodeOf (a .node))) (sym (i .settle .ensures .answered) ∙ told .enum-told .given .1))
 
 returns-3 : tie.Need-returns-3
-unfolding settleIn holding
+unfolding settle guard holding
 returns-3 c nodes blocks spare t =
     let told = c .before .before .before in
     let i = told .before .before in
@@ -75,9 +75,10 @@ returns-3 c nodes blocks spare t =
     let at : nodeOf (a .node) ≡ nodeAt nodes (a .j) = t .record-is ∙ ap (nodeAt nodes) (own-in (a .client) (s .pre .1)) in
     let all : everyOf (heldBy (a .c)) nodes ≡ true = sym (t .sees (s .pre .0 .sizes) .held) ∙ not-false _ (e .if1 .left) in
     let answer = c .before .before .settle-answer .ensures in
-    steps-made t (c .answered .ensures) ((rw (told .enum-told2 .given .1) at (i .settle .ensures .left)) ∙ ap (settled (a .e)) at)
+    steps-past t (s .pre .0)
+    (steps-made t (c .answered .ensures) ((rw (told .enum-told2 .given .1) at (i .settle .ensures .left)) ∙ ap (settled (a .e)) at)
     (rw (answer, said (leb n (a .j)), c .before .advance .ensures, s .pre .1, all))
-    (rw answer (left _ (leb n (a .j))))
+    (rw answer (left _ (leb n (a .j)))))
 
 pub settle-node-spec : {M : Type 1} → statement M
 settle-node-spec =

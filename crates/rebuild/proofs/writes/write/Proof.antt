@@ -1,11 +1,8 @@
 -- By the tests' answer. Assumes nothing.
 use borrow.Author.Needs.{needs}
-use Rattle.machine.specs.Rebuild.{write, writeIn}
-use Rattle.records.specs.View.{clientOf}
-use Rattle.calls.specs.Answers.{whole}
-use Rattle.rebuild.specs.Contracts.{inPhase}
-use Rattle.rebuild.proofs.Stepping.{steps-refused, steps-as}
-use Rattle.rebuild.proofs.Tabled.{tabled-admitted, tabled-tables, tabled-failed, tabled-passed}
+use Rattle.machine.specs.Rebuild.{write}
+use Rattle.rebuild.proofs.Stepping.{steps-refused}
+use Rattle.rebuild.proofs.Tabled.{tabled-admitted, tabled-tables, tabled-failed}
 use Rattle.rebuild.proofs.writes.write.Statement.{statement}
 use Rattle.rebuild.proofs.writes.write.Tie as tie
 
@@ -24,16 +21,6 @@ returns c nodes t =
     let a = tested .before .before .before .before .args in
     steps-refused t (c .refused .ensures) (tabled-failed (a .z) (a .c) (a .seen) (a .client) (a .blocks .now) (a .spare .now) (tested .tabled-entrance .ensures) (t .sees) _ (c .before .before .why .given .1))
 
-returns-2 : tie.Need-returns-2
-unfolding write
-returns-2 c nodes t =
-    let played = c .before .before in
-    let told = played .before .before in
-    let tested = told .before .before in
-    let a = tested .before .before .before .before .args in
-    steps-as t {part = inPhase writeIn (a .z) (a .c) (whole nodes (clientOf (a .client)) (a .blocks .now) (a .spare .now))} (played .write-in .ensures nodes t)
-    (tabled-passed (a .z) (a .c) (a .seen) (a .client) (a .blocks .now) (a .spare .now) (tested .tabled-entrance .ensures) (t .sees) _ (told .enum-told .given .1))
-
 pub write-spec : {M : Type 1} → statement M
 write-spec =
     tie.close
@@ -46,4 +33,4 @@ write-spec =
     (λ c. search needs)
     returns
     (λ c. search needs)
-    returns-2)
+    (λ c. c .before .before .write-in .ensures))
