@@ -1,3 +1,3 @@
-pub mod Outside
-pub mod Listed
+pub mod Runs
 pub mod Played
+pub mod Entered

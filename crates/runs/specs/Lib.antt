@@ -1,1 +1,3 @@
+pub mod Runs
 pub mod Played
+pub mod Entered

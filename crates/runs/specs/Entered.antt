@@ -1,0 +1,44 @@
+-- Demand 3 of the entry points of shelf: a caller keeps five tables and makes any list of calls of `step`, `pick` and `read` on them. Assumes nothing.
+use mathlib.Core.List.{List, []}
+use Prim.Native.Nat.{ℕ}
+use Rattle.machine.specs.Stripe as Machine
+use Rattle.machine.specs.Calls as Calls
+use Rattle.records.specs.declared.ClientRecord.{ClientRecord}
+use Rattle.records.specs.declared.NodeRecord.{NodeRecord}
+use Rattle.records.specs.declared.Sizes.{Sizes}
+use Rattle.calls.specs.declared.Answer.{Answer}
+use Rattle.calls.specs.Answers.{answerOf}
+use Rattle.calls.specs.Calls.{stepOf}
+use Rattle.shelf.specs.declared.PickRequest.{PickRequest}
+use Rattle.shelf.specs.declared.ReadRequest.{ReadRequest}
+use Rattle.shelf.specs.declared.Request.{Request}
+use Rattle.shelf.specs.Shelf.{Steps, Picks, Reads, stripeIn}
+use Rattle.runs.specs.Runs.{Demand3Of}
+
+-- "the n node records lent as one table", the m client records as another, and the three tables of bytes
+pub record Tables : Type 0 where
+  pub nodes : List NodeRecord
+  pub clients : List ClientRecord
+  pub blocks : List ℕ
+  pub spare : List ℕ
+  pub differences : List ℕ
+
+abbrev pub tablesOf : Sizes → Tables → Machine.Stripe
+tablesOf z t = stripeIn (t .nodes) (t .clients) (t .blocks) (t .spare) (t .differences)
+
+-- one call did what its entry point ensures. What it is not lent for writing stays: for a read all tables, for a pick the blocks and the differences
+pub data Enters (t : Tables) : Sizes → Calls.Call → Machine.Answer → Tables → Type 0 where
+  stepped : (q : Request) (value : List ℕ) (answer : Answer) (t′ : Tables)
+      → Steps (t .nodes) (t .clients) (t .blocks) (t .spare) (t .differences) value q answer
+      (t′ .nodes) (t′ .clients) (t′ .blocks) (t′ .spare) (t′ .differences)
+      → Enters t (q .z) (stepOf (q .call) value) (answerOf answer []) t′
+  picked : (q : PickRequest) (answer : Answer) (nodes : List NodeRecord) (clients : List ClientRecord) (spare : List ℕ)
+      → Picks (t .nodes) (t .clients) (t .spare) (t .blocks) q answer nodes clients spare
+      → Enters t (q .z) (Calls.Pick (q .c)) (answerOf answer [])
+      (record { nodes = nodes; clients = clients; blocks = t .blocks; spare = spare; differences = t .differences })
+  shown : (q : ReadRequest) (out : List ℕ) (answer : Answer) (out′ : List ℕ)
+      → Reads (t .nodes) out (t .blocks) q answer out′
+      → Enters t (q .z) (Calls.Read (q .i)) (answerOf answer out′) t
+
+abbrev pub Demand3Entered : Type 0
+Demand3Entered = Demand3Of tablesOf Enters
