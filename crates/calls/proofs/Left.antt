@@ -7,7 +7,7 @@ use borrow.Author.Tests.{not-true}
 use Rattle.records.specs.declared.Refusal.{Refusal}
 use Rattle.records.specs.Refusals.{changes}
 use Rattle.calls.specs.declared.Answer.{Answer}
-use Rattle.calls.specs.declared.Answer.the-variants.{Accepted, Shown, Added, Done, CheckInit, CheckGc, NoChange, Rebuilt, Refused}
+use Rattle.calls.specs.declared.Answer.the-variants.{Accepted, Shown, Added, Done, Rebuilt, Told, Refused}
 use Rattle.calls.specs.Answers.{Left, isUnchanged}
 
 -- where more is known of what is unchanged, or "the very same" is said in another way
@@ -37,10 +37,8 @@ refusing Accepted e = none _ e
 refusing Shown e = none _ e
 refusing Added e = none _ e
 refusing Done e = none _ e
-refusing CheckInit e = none _ e
-refusing CheckGc e = none _ e
-refusing NoChange e = none _ e
 refusing Rebuilt e = none _ e
+refusing (Told finding) e = none _ e
 refusing (Refused why) e = record { why = why; is = refl; unchanged = not-true (changes why) e }
 
 module _ (a : Answer) {P : Type 0} where

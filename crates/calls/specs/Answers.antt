@@ -9,7 +9,7 @@ use Rattle.records.specs.Refusals.{changes}
 use Rattle.records.specs.Node.{Node}
 use Rattle.records.specs.Client.{Client}
 use Rattle.calls.specs.declared.Answer.{Answer}
-use Rattle.calls.specs.declared.Answer.the-variants.{Accepted, Shown, Added, Done, CheckInit, CheckGc, NoChange, Rebuilt, Refused}
+use Rattle.calls.specs.declared.Answer.the-variants.{Accepted, Shown, Added, Done, Rebuilt, Told, Refused}
 
 -- `shown` is what a read put into the caller's buffer
 abbrev pub answerOf : Answer → List ℕ → Stripe.Answer
@@ -17,10 +17,8 @@ answerOf Accepted shown = Stripe.Accepted
 answerOf Shown shown = Stripe.Shown shown
 answerOf Added shown = Stripe.Added
 answerOf Done shown = Stripe.Done
-answerOf CheckInit shown = Stripe.CheckInit
-answerOf CheckGc shown = Stripe.CheckGc
-answerOf NoChange shown = Stripe.NoChange
 answerOf Rebuilt shown = Stripe.Rebuilt
+answerOf (Told finding) shown = Stripe.Told finding
 answerOf (Refused why) shown = Stripe.Refused why
 
 -- "unchanged": a refusal but 9 and 10
@@ -29,10 +27,8 @@ isUnchanged Accepted = false
 isUnchanged Shown = false
 isUnchanged Added = false
 isUnchanged Done = false
-isUnchanged CheckInit = false
-isUnchanged CheckGc = false
-isUnchanged NoChange = false
 isUnchanged Rebuilt = false
+isUnchanged (Told finding) = false
 isUnchanged (Refused why) = not (changes why)
 
 -- `same` says that the very records are handed back: only such a refusal must

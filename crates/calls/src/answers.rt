@@ -22,10 +22,8 @@ impl Answer {
             Answer::Shown => 0,
             Answer::Added => 0,
             Answer::Done => 0,
-            Answer::CheckInit => 0,
-            Answer::CheckGc => 0,
-            Answer::NoChange => 0,
             Answer::Rebuilt => 0,
+            Answer::Told(_) => 0,
             Answer::Refused(why) => why.number(),
         }
     }
@@ -39,10 +37,8 @@ impl Answer {
             Answer::Shown => false,
             Answer::Added => false,
             Answer::Done => false,
-            Answer::CheckInit => false,
-            Answer::CheckGc => false,
-            Answer::NoChange => false,
             Answer::Rebuilt => false,
+            Answer::Told(_) => false,
             Answer::Refused(why) => !is_change(why),
         }
     }

@@ -5,6 +5,7 @@ mod asked; // asked.rt: what a call is lent
 
 use records::ClientCall;
 use records::ClientRecord;
+use records::Finding;
 use records::NodeCall;
 use records::NodeRecord;
 use records::Refusal;
@@ -24,17 +25,15 @@ pub enum StepCall {
     By(ClientCall, u8),
 }
 
-// What a call is answered. The first eight are accepted: Shown is a read's, Added and Done an add's, the next three a check's, Rebuilt that of the
-// settle that finishes a rebuild.
+// What a call is answered. All but the last are accepted: Shown is a read's, Added and Done an add's, Rebuilt that of the settle that finishes a
+// rebuild, Told that of a call that asks.
 pub enum Answer {
     Accepted,
     Shown,
     Added,
     Done,
-    CheckInit,
-    CheckGc,
-    NoChange,
     Rebuilt,
+    Told(Finding),
     Refused(Refusal),
 }
 

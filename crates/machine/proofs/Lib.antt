@@ -31,6 +31,7 @@ pub mod KeptWriting
 pub mod KeptRebuild
 pub mod KeptFailure
 pub mod Refusals
+pub mod Outside
 -- lists of calls
 pub mod Told
 pub mod Rooted

@@ -9,7 +9,7 @@ use Rattle.records.specs.declared.Sizes.{Sizes}
 use Rattle.records.specs.declared.Refusal.{Refusal}
 use Rattle.records.specs.declared.Refusal.the-variants.{OutOfLimits, OutOfRange, OutOfPhase, WrongMode, OldEpoch, BeforePrevious, Full, Exhausted}
 use Rattle.records.specs.declared.Refusal.the-variants.{Locked, NotHeld, TooFew, NoInverse}
-use Rattle.machine.specs.Stripe.{Stripe, Answer, Accepted, Shown, Added, Done, CheckInit, CheckGc, NoChange, Rebuilt, Refused, number, fresh}
+use Rattle.machine.specs.Stripe.{Stripe, Answer, Accepted, Shown, Added, Done, Rebuilt, Told, Refused, number, fresh}
 use Rattle.machine.specs.Stripe.{nodeAt}
 use Rattle.machine.specs.Calls.{Call, swap, add, stop, fail, lock, pick, write, settle, step}
 
@@ -52,10 +52,8 @@ returned Accepted = []
 returned (Shown block) = block
 returned Added = []
 returned Done = []
-returned CheckInit = []
-returned CheckGc = []
-returned NoChange = []
 returned Rebuilt = []
+returned (Told finding) = []
 returned (Refused why) = sizeOf why
 
 abbrev pub pickAfter : ℕ → List Call → List ℕ

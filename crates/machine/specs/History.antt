@@ -13,7 +13,7 @@ use Rattle.records.specs.declared.NodeCall.{NodeCall}
 use Rattle.records.specs.declared.NodeCall.the-variants.{Add, Check}
 use Rattle.records.specs.declared.ClientCall.{ClientCall}
 use Rattle.records.specs.declared.ClientCall.the-variants.{Drop, Sweep, Stop, Lock, Weaken, Tighten, Write, Settle, Unlock, Quit}
-use Rattle.machine.specs.Stripe.{Answer, Accepted, Shown, Added, Done, CheckInit, CheckGc, NoChange, Rebuilt, Refused, number}
+use Rattle.machine.specs.Stripe.{Answer, Accepted, Shown, Added, Done, Rebuilt, Told, Refused, number}
 use Rattle.machine.specs.Calls.{Call, Read, Pick, Swap, Fail, At, By}
 
 -- a call that was made, its answer, and the blocks as it left them
@@ -65,10 +65,8 @@ isDone Accepted = false
 isDone (Shown block) = false
 isDone Added = false
 isDone Done = true
-isDone CheckInit = false
-isDone CheckGc = false
-isDone NoChange = false
 isDone Rebuilt = false
+isDone (Told finding) = false
 isDone (Refused why) = false
 
 -- the accepted settles of client c after its last accepted pick; none before any

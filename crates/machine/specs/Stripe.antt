@@ -6,6 +6,9 @@ use lib.Dec.{eqb}
 use lib.ListN.{length, getD, set, replicate}
 use Rattle.basics.specs.Lists.{elementAt, setAt, everyOf}
 use Rattle.records.specs.declared.Sizes.{Sizes}
+use Rattle.records.specs.declared.Finding.{Finding}
+use Rattle.records.specs.declared.Finding.the-variants as Findings
+use Rattle.records.specs.declared.CheckAnswer.the-variants as CheckAnswers
 use Rattle.records.specs.declared.Refusal.{Refusal}
 use Rattle.records.specs.Refusals.{numberOf}
 use Rattle.records.specs.Node.{Node, freshNode, failedNode, nodeWithin}
@@ -49,11 +52,21 @@ pub data Answer : Type 0 where
   Shown : List ℕ → Answer
   -- an add, and the add that completes its write
   Added Done : Answer
-  -- a check
-  CheckInit CheckGc NoChange : Answer
   -- the nth settle
   Rebuilt : Answer
+  -- a call that asks, with what it is told. Finding is the code's own (crates/records/src/lib.rt)
+  Told : Finding → Answer
   Refused : Refusal → Answer
+
+-- a check is told
+abbrev pub CheckInit : Answer
+CheckInit = Told (Findings.Check CheckAnswers.Init)
+
+abbrev pub CheckGc : Answer
+CheckGc = Told (Findings.Check CheckAnswers.Gc)
+
+abbrev pub NoChange : Answer
+NoChange = Told (Findings.Check CheckAnswers.NoChange)
 
 -- "the answer number (0 if accepted)"
 abbrev pub number : Answer → ℕ
@@ -61,10 +74,8 @@ number Accepted = 0
 number (Shown block) = 0
 number Added = 0
 number Done = 0
-number CheckInit = 0
-number CheckGc = 0
-number NoChange = 0
 number Rebuilt = 0
+number (Told finding) = 0
 number (Refused why) = numberOf why
 
 -- the answer, and what was lent as the call leaves it

@@ -145,6 +145,11 @@ pub struct CheckStep {
     pub node: NodeRecord,
 }
 
+// What a call that asks is told.
+pub enum Finding {
+    Check(CheckAnswer),
+}
+
 impl Refusal {
     // The number of document 01's table.
     pub fn number(self) -> u8

@@ -16,7 +16,7 @@ use Rattle.records.specs.declared.Refusal.the-variants as Refusals
 use Rattle.records.specs.declared.Refusal.the-variants.{OutOfLimits}
 use Rattle.records.specs.Refusals.{numberOf}
 use Rattle.calls.specs.declared.Answer.{Answer}
-use Rattle.calls.specs.declared.Answer.the-variants.{Accepted, Shown, Added, Done, CheckInit, CheckGc, NoChange, Rebuilt, Refused}
+use Rattle.calls.specs.declared.Answer.the-variants.{Accepted, Shown, Added, Done, Rebuilt, Told, Refused}
 use Rattle.calls.specs.Answers.{answerOf, Left}
 use Rattle.calls.specs.declared.Call.{Call}
 use Rattle.calls.specs.declared.Call.the-variants.{Read, Pick, Step}
@@ -47,10 +47,8 @@ answer-one Accepted shown e = absurd (omega arith)
 answer-one Shown shown e = absurd (omega arith)
 answer-one Added shown e = absurd (omega arith)
 answer-one Done shown e = absurd (omega arith)
-answer-one CheckInit shown e = absurd (omega arith)
-answer-one CheckGc shown e = absurd (omega arith)
-answer-one NoChange shown e = absurd (omega arith)
 answer-one Rebuilt shown e = absurd (omega arith)
+answer-one (Told finding) shown e = absurd (omega arith)
 answer-one (Refused why) shown e = ap Refused (why-one why e)
 
 -- what is played is the machine's step, but for the test of a read's buffer

@@ -10,17 +10,15 @@ use lib.ListN.{length}
 use Rattle.blocks.specs.Blocks.{Bytes}
 use Rattle.code.specs.Code.{codeSizes}
 use Rattle.machine.specs.Stripe.{Stripe, Answer, number, Outcome, answered, refused, guard}
-use Rattle.machine.specs.Calls.{Call, Read, Pick, Swap, Fail, At, By, step}
+use Rattle.machine.specs.Calls.{Call, step}
 use Rattle.machine.specs.History.{Event, nodesAt, sizesAt}
 use Rattle.machine.specs.Guarantee.{Request, Allowed, AllAllowed, Holds, made, play, start, valueOf}
 use Rattle.machine.specs.Guarantee as Machine
+use Rattle.machine.proofs.Outside.{step-outside}
 use Rattle.machine.proofs.Theorem.{demand3}
 use Rattle.records.specs.declared.Sizes.{Sizes}
 use Rattle.records.specs.declared.Refusal.the-variants.{OutOfLimits}
 use Rattle.records.specs.Sizes.{sizesWithin}
-use Rattle.calls.specs.declared.Call.the-variants as Code
-use Rattle.calls.specs.declared.StepCall.the-variants as Code-step
-use Rattle.step.proofs.Playing.{outside}
 use Rattle.runs.specs.Runs.{Begun, Permitted, Run, begun, called, Demand3Of}
 
 -- sizes outside the limits
@@ -32,13 +30,7 @@ unfolding sizesWithin codeSizes
 none-within = refl
 
 refused-none : (call : Call) (s : Stripe) → refused OutOfLimits s ≡ step none call s
-unfolding guard
-refused-none (Read i) s = outside none s none-within (Code.Read i) [] []
-refused-none (Pick c) s = outside none s none-within (Code.Pick c) [] []
-refused-none (Swap c i value) s = outside none s none-within (Code.Step (Code-step.Swap c i)) value []
-refused-none (Fail j value) s = outside none s none-within (Code.Step (Code-step.Fail j)) value []
-refused-none (At op c j) s = outside none s none-within (Code.Step (Code-step.At op c j)) [] []
-refused-none (By op c) s = outside none s none-within (Code.Step (Code-step.By op c)) [] []
+refused-none call s = step-outside none s none-within call
 
 -- ---- one call of the code
 

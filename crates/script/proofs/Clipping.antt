@@ -13,7 +13,7 @@ use Rattle.records.specs.declared.Refusal.the-variants.{OutOfLimits, OutOfRange
 use Rattle.records.specs.Node.{failedNode, nodeWithin}
 use Rattle.records.specs.Client.{Client, freshClient, clientWithin}
 use Rattle.records.specs.Sizes.{sizesWithin, isNode, isPosition, isRedundant, isClient}
-use Rattle.machine.specs.Stripe.{Stripe, Outcome, refused, guard, Local, Whole, nodeAt, clientAt, atNode, onNode, whole, onWhole, blocksFit, nodesFit}
+use Rattle.machine.specs.Stripe.{Stripe, Answer, Outcome, refused, guard, Local, Whole, nodeAt, clientAt, atNode, onNode, whole, onWhole, blocksFit, nodesFit}
 use Rattle.basics.specs.Lists.{elementAt}
 use Rattle.machine.specs.Calls.{Call, Read, Pick, Swap, Fail, At, By, step}
 use Rattle.records.specs.declared.NodeCall.{NodeCall}
@@ -25,6 +25,7 @@ use Rattle.machine.specs.Failure as Failure
 use Rattle.machine.specs.Rebuild as Rebuild
 use Rattle.basics.proofs.Lists.{element-past}
 use Rattle.machine.proofs.View.{refused-at, refused-on}
+use Rattle.script.specs.Lines.{eventOf}
 use Rattle.script.specs.Reading.{clipNumber, clipValue, clip}
 
 clip-below : (x : ℕ) → x ≤ 255 → clipNumber x ≡ x
@@ -72,6 +73,15 @@ pub record Small (z : Sizes) (s : Stripe) : Type 0 where
   pub clients : z .m < 255
   pub node-records : length (s .nodes) < 255
   pub client-records : length (s .clients) < 255
+
+-- an event does not go by what is clipped
+pub clip-event : (room : ℕ) (x : Call) (a : Answer) → eventOf (clip room x) a ≡ eventOf x a
+clip-event room (Read i) a = refl
+clip-event room (Pick c) a = refl
+clip-event room (Swap c i value) a = refl
+clip-event room (Fail j value) a = refl
+clip-event room (At op c j) a = refl
+clip-event room (By op c) a = refl
 
 -- refused with 1 or 2
 unfoldable denied : {S : Type 0} → Bool → S → Outcome S

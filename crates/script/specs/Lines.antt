@@ -6,7 +6,7 @@ use mathlib.Core.Option.{Option, none, some}
 use Prim.Native.Nat.{ℕ, zero, suc, _+_, _-_, _*_, _/_, _%_}
 use lib.Dec.{eqb, leb, ltb}
 use Rattle.machine.specs.Stripe as Stripe
-use Rattle.machine.specs.Stripe.{Answer, Accepted, Added, Done, CheckInit, CheckGc, NoChange, Rebuilt, Refused, number}
+use Rattle.machine.specs.Stripe.{Answer, Accepted, Added, Done, Rebuilt, Told, Refused, number}
 use Rattle.machine.specs.Calls as Calls
 use Rattle.machine.specs.Calls.{Call, Read, Pick, Swap, Fail, At, By}
 use Rattle.records.specs.declared.NodeCall.{NodeCall}
@@ -123,10 +123,8 @@ isRebuilt Accepted = false
 isRebuilt (Stripe.Shown block) = false
 isRebuilt Added = false
 isRebuilt Done = false
-isRebuilt CheckInit = false
-isRebuilt CheckGc = false
-isRebuilt NoChange = false
 isRebuilt Rebuilt = true
+isRebuilt (Told finding) = false
 isRebuilt (Refused why) = false
 
 abbrev pub ifAccepted : Answer → Event → Event
@@ -172,16 +170,15 @@ unfoldable pub hex : List ℕ → List ℕ
 hex [] = []
 hex (x ∷ xs) = hexOf (x / 16) ∷ hexOf (x % 16) ∷ hex xs
 
--- "and the byte read or '-'"
+-- "and the byte read or '-'": a block of no byte shows none
 abbrev pub shown : Answer → List ℕ
 shown Accepted = 45 ∷ []
-shown (Stripe.Shown block) = hex block
+shown (Stripe.Shown []) = 45 ∷ []
+shown (Stripe.Shown (x ∷ xs)) = hex (x ∷ xs)
 shown Added = 45 ∷ []
 shown Done = 45 ∷ []
-shown CheckInit = 45 ∷ []
-shown CheckGc = 45 ∷ []
-shown NoChange = 45 ∷ []
 shown Rebuilt = 45 ∷ []
+shown (Told finding) = 45 ∷ []
 shown (Refused why) = 45 ∷ []
 
 -- what is shown of a block of one byte

@@ -10,14 +10,15 @@ use lib.ListN.{length, take, getD, replicate, length-take}
 use lib.Seq.{length-take-le, take-suc, take-append-add, take-append-le}
 use borrow.Author.Tests.{ne-eqb}
 use Rattle.basics.proofs.Lists.{length-listOf}
-use Rattle.machine.specs.Stripe.{Stripe, Answer}
-use Rattle.machine.specs.Calls.{Call, Read, Pick, Swap, Fail, At, By}
-use Rattle.script.specs.Lines.{call}
+use Rattle.machine.specs.Stripe.{Stripe, Answer, number}
+use Rattle.machine.specs.Calls.{Call}
+use Rattle.script.specs.Lines.{call, printed, shown}
 use Rattle.script.specs.Reading.{clipped, callIn, Holds, Takes, Ends}
 use Rattle.script.specs.Writing.{Put}
 use Rattle.script.specs.declared.reader.Line.{Line}
 use Rattle.script.specs.declared.reader.LineReader.{LineReader}
-use Rattle.script.proofs.Clipping.{Small, clip-call}
+use Rattle.script.specs.declared.writer.Event.{Event}
+use Rattle.script.proofs.Clipping.{Small, clip-call, clip-event}
 use Rattle.step.specs.declared.Stripe as Player
 use Rattle.step.specs.View.{stripeOf}
 use Rattle.shelfrun.specs.Shelfrun.{State, start, sizes, outcome, output, isBegun, lineOutput, byteOutput, byteLeft, outputOf, left, lastOutput, shelfrun}
@@ -74,12 +75,7 @@ within-line {byte = byte} other t = record {
 -- the event and the byte shown do not go by what is clipped
 clip-output : (n : ℕ) (x : Option Call) (a : Answer) → output n (clipped 1 x) a ≡ output n x a
 clip-output n none a = refl
-clip-output n (some (Read i)) a = refl
-clip-output n (some (Pick c)) a = refl
-clip-output n (some (Swap c i value)) a = refl
-clip-output n (some (Fail j value)) a = refl
-clip-output n (some (At op c j)) a = refl
-clip-output n (some (By op c)) a = refl
+clip-output n (some x) a = ap (λ (event : Event). printed n event (number a) (shown a)) (clip-event 1 x a)
 
 clip-outcome : (x : Option Call) (s : Stripe) → Small sizes s → outcome (clipped 1 x) s ≡ outcome x s
 clip-outcome none s small = refl

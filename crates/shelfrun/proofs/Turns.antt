@@ -13,12 +13,12 @@ use Rattle.machine.specs.Stripe as Machines
 use Rattle.machine.specs.Calls.{step}
 use Rattle.machine.specs.Calls as Machine
 use Rattle.calls.specs.declared.Answer.{Answer}
-use Rattle.calls.specs.declared.Answer.the-variants.{Accepted, Shown, Added, Done, CheckInit, CheckGc, NoChange, Rebuilt, Refused}
+use Rattle.calls.specs.declared.Answer.the-variants.{Accepted, Shown, Added, Done, Rebuilt, Told, Refused}
 use Rattle.calls.specs.Answers.{answerOf}
 use Rattle.calls.specs.declared.Call.{Call}
 use Rattle.calls.specs.declared.Call.the-variants as Calls
 use Rattle.calls.specs.Calls.{callOf}
-use Rattle.script.specs.Lines.{printed, shownText}
+use Rattle.script.specs.Lines.{printed, shown, shownText}
 use Rattle.script.specs.Writing.{Put}
 use Rattle.script.specs.declared.writer.Event.{Event}
 use Rattle.script.specs.declared.writer.Shown as Writer
@@ -32,11 +32,19 @@ number-alone Accepted block = refl
 number-alone Shown block = refl
 number-alone Added block = refl
 number-alone Done block = refl
-number-alone CheckInit block = refl
-number-alone CheckGc block = refl
-number-alone NoChange block = refl
 number-alone Rebuilt block = refl
+number-alone (Told finding) block = refl
 number-alone (Refused why) block = refl
+
+-- only a read shows a byte
+pub none-shown : (a : Answer) → 45 ∷ [] ≡ shown (answerOf a [])
+none-shown Accepted = refl
+none-shown Shown = refl
+none-shown Added = refl
+none-shown Done = refl
+none-shown Rebuilt = refl
+none-shown (Told finding) = refl
+none-shown (Refused why) = refl
 
 module _ {A : Type 0} (x y : A) (a : Answer) (n : ℕ) (e : n ≡ number (answerOf a [])) where
   pub when-accepted : n ≡ 0 → (block : List ℕ) → x ≡ cond (eqb (number (answerOf a block)) 0) x y

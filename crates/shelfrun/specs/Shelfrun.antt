@@ -8,7 +8,7 @@ use lib.ListN.{replicate}
 use Rattle.records.specs.declared.Sizes.{Sizes}
 use Rattle.records.specs.declared.Refusal.the-variants.{OutOfLimits}
 use Rattle.machine.specs.Stripe.{Stripe, Outcome, Answer, fresh, number, refused}
-use Rattle.machine.specs.Calls.{Call, Read, Pick, Swap, Fail, At, By, step}
+use Rattle.machine.specs.Calls.{Call, step}
 use Rattle.script.specs.Lines.{call, ended, eventOf, printed, shown}
 use Rattle.script.specs.declared.writer.Event.{Event}
 use Rattle.script.specs.declared.writer.Event.the-variants as Events
@@ -27,18 +27,10 @@ abbrev pub eventIn : Option Call → Answer → Event
 eventIn none a = Events.None
 eventIn (some x) a = eventOf x a
 
--- "and the byte read or "-"": only a read shows one
-abbrev pub isRead : Call → Bool
-isRead (Read i) = true
-isRead (Pick c) = false
-isRead (Swap c i value) = false
-isRead (Fail j value) = false
-isRead (At op c j) = false
-isRead (By op c) = false
-
+-- "and the byte read or "-"": no other answer shows one
 abbrev pub readIn : Option Call → Answer → List ℕ
 readIn none a = 45 ∷ []
-readIn (some x) a = cond (isRead x) (shown a) (45 ∷ [])
+readIn (some x) a = shown a
 
 -- "Each input line, readable or not, gives one output line: its number from 1, an event or "-", the answer number .., and the byte read or "-""
 abbrev pub output : ℕ → Option Call → Answer → List ℕ

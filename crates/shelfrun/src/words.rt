@@ -41,10 +41,8 @@ fn if_rebuilt(answer: Answer) -> Event
         Answer::Shown => Event::None,
         Answer::Added => Event::None,
         Answer::Done => Event::None,
-        Answer::CheckInit => Event::None,
-        Answer::CheckGc => Event::None,
-        Answer::NoChange => Event::None,
         Answer::Rebuilt => Event::Rebuilt,
+        Answer::Told(_) => Event::None,
         Answer::Refused(_) => Event::None,
     }
 }
@@ -57,10 +55,8 @@ fn if_shown(answer: Answer, byte: u8) -> Shown
         Answer::Shown => Shown::Byte(byte),
         Answer::Added => Shown::Nothing,
         Answer::Done => Shown::Nothing,
-        Answer::CheckInit => Shown::Nothing,
-        Answer::CheckGc => Shown::Nothing,
-        Answer::NoChange => Shown::Nothing,
         Answer::Rebuilt => Shown::Nothing,
+        Answer::Told(_) => Shown::Nothing,
         Answer::Refused(_) => Shown::Nothing,
     }
 }

@@ -11,18 +11,14 @@ use Rattle.machine.specs.Stripe.{replacing, Outcome, Local, answered, refused, 
 use Rattle.basics.specs.Lists.{setAt}
 use Rattle.machine.specs.Writing as Writing
 use Rattle.machine.specs.Rebuild as Rebuild
-use Rattle.machine.specs.Failure as Failure
 use Rattle.machine.specs.Calls as Calls
-use Rattle.machine.specs.Calls.{step, stepAt, stepBy}
-use Rattle.machine.proofs.View.{put-back, refused-at, refused-on}
+use Rattle.machine.specs.Calls.{step}
+use Rattle.machine.proofs.View.{put-back}
+use Rattle.machine.proofs.Outside.{step-outside}
 use Rattle.machine.proofs.Refusals.{refusals-same}
 use Rattle.records.specs.declared.Sizes.{Sizes}
 use Rattle.records.specs.declared.NodeRecord.{NodeRecord}
 use Rattle.records.specs.declared.ClientRecord.{ClientRecord}
-use Rattle.records.specs.declared.NodeCall.{NodeCall}
-use Rattle.records.specs.declared.NodeCall.the-variants.{Add, Check}
-use Rattle.records.specs.declared.ClientCall.{ClientCall}
-use Rattle.records.specs.declared.ClientCall.the-variants.{Drop, Sweep, Stop, Lock, Weaken, Tighten, Write, Settle, Unlock, Quit}
 use Rattle.records.specs.declared.Refusal.{Refusal}
 use Rattle.records.specs.declared.Refusal.the-variants.{OutOfLimits}
 use Rattle.records.specs.Sizes.{sizesWithin}
@@ -33,7 +29,6 @@ use Rattle.calls.specs.declared.Answer.the-variants.{Refused}
 use Rattle.calls.specs.declared.Call.{Call}
 use Rattle.calls.specs.declared.Call.the-variants.{Read, Pick, Step}
 use Rattle.calls.specs.declared.StepCall.{StepCall}
-use Rattle.calls.specs.declared.StepCall.the-variants as StepCalls
 use Rattle.calls.specs.Answers.{Meets, answerOf, isUnchanged, local}
 use Rattle.calls.specs.Calls.{stepOf}
 use Rattle.calls.proofs.Left.{refusing, left-same, left-free}
@@ -50,40 +45,15 @@ use Rattle.step.proofs.Shapes.{on-whole}
 -- ---- with sizes outside the limits every call is refused with 1
 
 module _ (z : Sizes) (s : Machine.Stripe) (e : sizesWithin z ≡ false) where
-  at-outside : (op : NodeCall) (c j : ℕ) → refused OutOfLimits s ≡ onNode j c (stepAt op z c j) s
-  unfolding guard Writing.add Writing.check
-  at-outside Add c j = sym (refused-at s OutOfLimits j c (Writing.add z c j) (rw e))
-  at-outside Check c j = sym (refused-at s OutOfLimits j c (Writing.check z c j) (rw e))
-
-  by-outside : (op : ClientCall) (c : ℕ) → refused OutOfLimits s ≡ stepBy op z c s
-  unfolding guard Writing.drop Writing.sweep Failure.stop Rebuild.lock Rebuild.weaken Rebuild.tighten Rebuild.write Rebuild.settle Rebuild.unlock Rebuild.quit
-  by-outside Drop c = sym (refused-at s OutOfLimits 0 c (Writing.drop z c) (rw e))
-  by-outside Sweep c = sym (refused-at s OutOfLimits (Writing.sweepNode z (clientAt (s .clients) c)) c (Writing.sweep z c) (rw e))
-  by-outside Stop c = sym (refused-on s OutOfLimits c (Failure.stop z c) (rw e))
-  by-outside Lock c = sym (refused-on s OutOfLimits c (Rebuild.lock z c) (rw e))
-  by-outside Weaken c = sym (refused-on s OutOfLimits c (Rebuild.weaken z c) (rw e))
-  by-outside Tighten c = sym (refused-on s OutOfLimits c (Rebuild.tighten z c) (rw e))
-  by-outside Write c = sym (refused-on s OutOfLimits c (Rebuild.write z c) (rw e))
-  by-outside Settle c = sym (refused-on s OutOfLimits c (Rebuild.settle z c) (rw e))
-  by-outside Unlock c = sym (refused-on s OutOfLimits c (Rebuild.unlock z c) (rw e))
-  by-outside Quit c = sym (refused-on s OutOfLimits c (Rebuild.quit z c) (rw e))
-
-  step-outside : (call : StepCall) (value : List ℕ) → refused OutOfLimits s ≡ step z (stepOf call value) s
-  unfolding step guard Writing.swap Failure.fail
-  step-outside (StepCalls.Swap c i) value = sym (refused-at s OutOfLimits i c (Writing.swap z c i value) (rw e))
-  step-outside (StepCalls.Fail j) value = sym (refused-at s OutOfLimits j 0 (Failure.fail z j value) (rw e))
-  step-outside (StepCalls.At op c j) value = at-outside op c j
-  step-outside (StepCalls.By op c) value = by-outside op c
-
   either : (test : Bool) {o : Outcome Machine.Stripe} → refused OutOfLimits s ≡ o → refused OutOfLimits s ≡ cond test (refused OutOfLimits s) o
   either true q = refl
   either false q = q
 
   pub outside : (call : Call) (value shown : List ℕ) → refused OutOfLimits s ≡ playing z call value shown s
-  unfolding step guard Writing.read Rebuild.pick
-  outside (Read i) value shown = either (not (eqb (length shown) (z .b))) (sym (refused-at s OutOfLimits i 0 (Writing.read z i) (rw e)))
-  outside (Pick c) value shown = sym (refused-on s OutOfLimits c (Rebuild.pick z c) (rw e))
-  outside (Step call) value shown = step-outside call value
+  unfolding guard
+  outside (Read i) value shown = either (not (eqb (length shown) (z .b))) (step-outside z s e (Calls.Read i))
+  outside (Pick c) value shown = step-outside z s e (Calls.Pick c)
+  outside (Step call) value shown = step-outside z s e (stepOf call value)
 
   shown-left : (call : Call) (a : Answer) (shown : List ℕ) → ShownLeft call a shown shown
   shown-left (Read i) a shown = left-same a refl

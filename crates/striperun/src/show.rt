@@ -13,7 +13,9 @@ use format::output::put_bytes;
 use format::output::put_number;
 use format::output::put_number_and;
 use format::output::put_text;
+use records::CheckAnswer;
 use records::ClientRecord;
+use records::Finding;
 use records::Phase;
 use records::Refusal;
 use records::Sizes;
@@ -49,6 +51,21 @@ fn put_refusal(out: &mut [u8], at: usize, why: Refusal) -> usize {
     }
 }
 
+fn put_check(out: &mut [u8], at: usize, told: CheckAnswer) -> usize {
+    match told {
+        CheckAnswer::Init => put_text(out, at, b"INIT"),
+        CheckAnswer::Gc => put_text(out, at, b"GC"),
+        CheckAnswer::NoChange => put_text(out, at, b"NoChange"),
+    }
+}
+
+// What a call that asks is told.
+fn put_finding(out: &mut [u8], at: usize, finding: Finding) -> usize {
+    match finding {
+        Finding::Check(told) => put_check(out, at, told),
+    }
+}
+
 // What is returned with the acceptance of a call that has no word of its own.
 fn put_accepted(out: &mut [u8], at: usize, m: usize, line: Line, stripe: Stripe) -> usize
     requires { ⌜ m ≤ 8 ⌝ }
@@ -79,10 +96,8 @@ fn put_returned(
         Answer::Shown => put_block_read(out, at, shown),
         Answer::Added => put_text(out, at, b"Added"),
         Answer::Done => put_text(out, at, b"Done"),
-        Answer::CheckInit => put_text(out, at, b"INIT"),
-        Answer::CheckGc => put_text(out, at, b"GC"),
-        Answer::NoChange => put_text(out, at, b"NoChange"),
         Answer::Rebuilt => put_text(out, at, b"rebuilt"),
+        Answer::Told(finding) => put_finding(out, at, finding),
         Answer::Refused(why) => put_refusal(out, at, why),
     }
 }

@@ -10,6 +10,7 @@ use Rattle.entries.specs.Entries.{isRecentIn, previousRecent}
 use Rattle.records.specs.declared.CheckAnswer.{CheckAnswer}
 use Rattle.records.specs.declared.CheckAnswer.the-variants as Told
 use Rattle.records.specs.declared.ClientRecord.{ClientRecord}
+use Rattle.records.specs.declared.Finding.the-variants as Finding
 use Rattle.records.specs.declared.Hand.the-variants.{Empty, Holding}
 use Rattle.records.specs.declared.Refusal.the-variants.{OutOfPhase}
 use Rattle.records.specs.declared.Write.{Write}
@@ -56,11 +57,13 @@ module _ (j : ℕ) (client : ClientRecord) (w : Write) (l : Local) where
           ap by-told (sym q ∙ e) ∙ asked (isRecentIn (w .id) (l .node .entries)) (previousRecent (w .previous) (l .node .entries)) ∙ rw (held, there)
 
       pub check-init : {y : Client} {same : Type 0} → told ≡ Told.Init → y ≡ left
-          → Meets (checkWrite j (clientOf client .hand) l) Answer.CheckInit [] (withClient y l) same
+          → Meets (checkWrite j (clientOf client .hand) l) (Answer.Told (Finding.Check Told.Init)) [] (withClient y l) same
       check-init q c = record { said = rw c (told-seen q); left = tt }
 
-      pub check-gc : {y : Client} {same : Type 0} → told ≡ Told.Gc → y ≡ forgot → Meets (checkWrite j (clientOf client .hand) l) Answer.CheckGc [] (withClient y l) same
+      pub check-gc : {y : Client} {same : Type 0} → told ≡ Told.Gc → y ≡ forgot
+          → Meets (checkWrite j (clientOf client .hand) l) (Answer.Told (Finding.Check Told.Gc)) [] (withClient y l) same
       check-gc q c = record { said = rw c (told-seen q); left = tt }
 
-      pub check-same : {same : Type 0} → told ≡ Told.NoChange → Meets (checkWrite j (clientOf client .hand) l) Answer.NoChange [] l same
+      pub check-same : {same : Type 0} → told ≡ Told.NoChange
+          → Meets (checkWrite j (clientOf client .hand) l) (Answer.Told (Finding.Check Told.NoChange)) [] l same
       check-same q = record { said = told-seen q; left = tt }

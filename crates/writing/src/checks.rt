@@ -14,6 +14,7 @@ use limits::at_node::is_client_within;
 use limits::at_node::is_within;
 use records::CheckAnswer;
 use records::ClientRecord;
+use records::Finding;
 use records::Hand;
 use records::NodeRecord;
 use records::Refusal;
@@ -41,15 +42,15 @@ fn check_write(j: u8, write: Write, node: NodeRecord, client: ClientRecord) -> O
     let told = asked.answer;
     match told {
         CheckAnswer::Init => OfClient {
-            answer: Answer::CheckInit,
+            answer: Answer::Told(Finding::Check(CheckAnswer::Init)),
             client: client.leave(write, j),
         },
         CheckAnswer::Gc => OfClient {
-            answer: Answer::CheckGc,
+            answer: Answer::Told(Finding::Check(CheckAnswer::Gc)),
             client: client.forget(write),
         },
         CheckAnswer::NoChange => OfClient {
-            answer: Answer::NoChange,
+            answer: Answer::Told(Finding::Check(CheckAnswer::NoChange)),
             client: client,
         },
     }
