@@ -78,6 +78,22 @@ module _ (a n : ℕ) (p t : List ℕ) (fits : a + n ≤ length t) (many : length
       let later : (s : List ℕ) → drop (c - (a + n)) (drop (a + n) s) ≡ drop c s = λ s. drop-drop (c - (a + n)) (a + n) s ∙ ap (λ (k : ℕ). drop k s) e in
       ap (take m) (sym (later (setPart a n p t)) ∙ ap (drop (c - (a + n))) (drop-set a n p t fits many) ∙ later t)
 
+-- ---- bytes of a list that has p in the place of its n bytes from a on
+
+-- a byte as a part
+alone : (i : ℕ) (t : List ℕ) → getD t i 0 ≡ getD (part i 1 t) 0 0
+alone i t = let e : i + 0 ≡ i = omega arith in sym (part-at i 1 t 0 (omega arith) ∙ ap (λ k. getD t k 0) e)
+
+module _ (a n : ℕ) (p t : List ℕ) (fits : a + n ≤ length t) (many : length p ≡ n) where
+  pub put-in : (l : ℕ) → l < n → getD (setPart a n p t) (a + l) 0 ≡ getD p l 0
+  put-in l h = sym (part-at a n (setPart a n p t) l h) ∙ ap (λ d. getD d l 0) (get-set-same a n p t fits many)
+
+  pub put-before : (i : ℕ) → i < a → getD (setPart a n p t) i 0 ≡ getD t i 0
+  put-before i h = alone i (setPart a n p t) ∙ ap (λ d. getD d 0 0) (get-set-before a n p t fits many i 1 (omega arith)) ∙ sym (alone i t)
+
+  pub put-after : (i : ℕ) → a + n ≤ i → getD (setPart a n p t) i 0 ≡ getD t i 0
+  put-after i h = alone i (setPart a n p t) ∙ ap (λ d. getD d 0 0) (get-set-after a n p t fits many i 1 (omega arith)) ∙ sym (alone i t)
+
 -- ---- blocks of b bytes, numbered from 1
 
 -- block j ends where the next begins

@@ -1,6 +1,5 @@
 // Blocks of bytes, and one block of a table of blocks.
 pub mod doublings; // doublings.rt: products of one byte by many
-pub mod lanes; // lanes.rt: sixteen bytes at a time
 
 ghost use mathlib.Core.Path.{_≡_};
 ghost use Prim.Native.Nat.{_+_, _-_, _*_, _≤_};

@@ -5,8 +5,8 @@ use Prim.Native.Nat.{ℕ, zero, suc, _≤_}
 use native.Mathlib.Omega.{arith}
 use Rattle.gf256.proofs.Laws.{product-add, product-left, product-zero}
 use Rattle.code.specs.Code.{sum}
-use Rattle.code.proofs.Sum.{All}
-use Rattle.code.proofs.Ring.{_⊕_, _⊗_, ring, one-times, Nonzero, cancel}
+use Rattle.gf256.proofs.Sum.{All}
+use Rattle.gf256.proofs.Ring.{_⊕_, _⊗_, ring, one-times, Nonzero, cancel}
 
 -- f is a polynomial function of degree below m: it is 0, or its divided difference at each a is one of degree below m − 1
 abbrev pub Degree : ℕ → (ℕ → ℕ) → Type 0

@@ -9,8 +9,8 @@ use borrow.Author.Tests.{eq-eqb, ne-eqb}
 use Rattle.gf256.proofs.Laws.{product-left, zero-product}
 use Rattle.code.specs.Code.{sum}
 use Rattle.code.specs.Decode.{others}
-use Rattle.code.proofs.Ring.{_⊕_, _⊗_, ring, Nonzero, nonzero-times}
-use Rattle.code.proofs.Sum.{All, sum-one}
+use Rattle.gf256.proofs.Ring.{_⊕_, _⊗_, ring, Nonzero, nonzero-times}
+use Rattle.gf256.proofs.Sum.{All, sum-one}
 use Rattle.code.proofs.Degree.{Degree, degree-constant, degree-factor, degree-times, degree-sum, degree-ext}
 
 module _ (s : ℕ → ℕ) where

@@ -12,8 +12,8 @@ use Rattle.gf256.proofs.Laws.{product-comm, product-zero, one-product, inverse-
 use Rattle.code.specs.Code.{coefficient, row, symbol}
 use Rattle.code.specs.Decode.{recovered, each, invertible}
 use Rattle.code.specs.Determined.{Solves, Invertible, Decides}
-use Rattle.code.proofs.Ring.{_⊕_, _⊗_}
-use Rattle.code.proofs.Sum.{All, sum-one}
+use Rattle.gf256.proofs.Ring.{_⊕_, _⊗_}
+use Rattle.gf256.proofs.Sum.{All, sum-one}
 use Rattle.code.proofs.Symbols.{symbol-data, symbol-redundant}
 use Rattle.code.proofs.Recover.{Chosen, recovered-byte, recover-agrees, recover-symbol}
 

@@ -11,7 +11,7 @@ use lib.ListN.{length, getD, List·getD-eq-default}
 use Rattle.basics.proofs.Tests.{never-both}
 use Rattle.basics.proofs.Lists.{length-listOf, getD-listOf}
 use Rattle.code.specs.Decode.{NodeSet, has, setOf, including, excluding, membersFrom, size, lowest, invertible}
-use Rattle.code.proofs.Sum.{All}
+use Rattle.gf256.proofs.Sum.{All}
 use Rattle.code.proofs.Invertible.{invertible-chosen}
 use Rattle.code.proofs.Recover.{Chosen}
 

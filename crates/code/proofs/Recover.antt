@@ -11,8 +11,9 @@ use Rattle.gf256.proofs.Laws.{product-add, product-left, product-byte, product-
 use Rattle.gf256.proofs.Xor.{xor-self}
 use Rattle.code.specs.Code.{coefficient, symbol}
 use Rattle.code.specs.Decode.{others, scale, recover, recovered}
-use Rattle.code.proofs.Ring.{_⊕_, _⊗_, ring, one-times, sum-zero-eq, Nonzero, inverse-times, undo, apart}
-use Rattle.code.proofs.Sum.{All, sum-ext, sum-times, sum-byte}
+use Rattle.gf256.proofs.Ring.{_⊕_, _⊗_, ring, one-times, sum-zero-eq, Nonzero, inverse-times, undo}
+use Rattle.code.proofs.Points.{apart}
+use Rattle.gf256.proofs.Sum.{All, sum-ext, sum-times, sum-byte}
 use Rattle.code.proofs.Degree.{Degree, degree-add, roots}
 use Rattle.code.proofs.Factors.{others-all, others-nonzero, poly, poly-degree, poly-at}
 use Rattle.code.proofs.Symbols.{symbol-data, symbol-redundant, symbol-byte}

@@ -8,8 +8,8 @@ use borrow.Author.Tests.{le-leb, lt-leb}
 use Rattle.gf256.proofs.Laws.{product-add, product-zero, product-byte, product-low, byte-low}
 use Rattle.gf256.proofs.Xor.{xor-self}
 use Rattle.code.specs.Code.{sum, coefficient, symbol}
-use Rattle.code.proofs.Ring.{_⊕_, _⊗_, ring}
-use Rattle.code.proofs.Sum.{All, sum-ext, sum-zero, sum-add, sum-one, sum-byte}
+use Rattle.gf256.proofs.Ring.{_⊕_, _⊗_, ring}
+use Rattle.gf256.proofs.Sum.{All, sum-ext, sum-zero, sum-add, sum-one, sum-byte}
 
 module _ (k j : ℕ) where
   pub symbol-data : (x : ℕ → ℕ) → j ≤ k → symbol k j x ≡ x j

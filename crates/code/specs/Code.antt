@@ -3,20 +3,16 @@
 use mathlib.Core.Bool.{Bool, true, false, cond, _&&_}
 use mathlib.Core.List.{List}
 use mathlib.Core.Path.{_≡_}
-use Prim.Native.Nat.{ℕ, zero, suc, _+_, _-_}
+use Prim.Native.Nat.{ℕ, _+_, _-_}
 use lib.Bits.{bitXor}
 use lib.Dec.{eqb, leb, ltb}
 use Rattle.gf256.specs.Field.{product, inverse}
+unfoldable pub use Rattle.gf256.specs.Field.{sum}
 use Rattle.blocks.specs.Blocks.{byteAt, table}
 
 -- "k is 2 to 12; n−k is 1 to 6 and at most k; block length B is 1 to 4,096"
 unfoldable pub codeSizes : ℕ → ℕ → ℕ → Bool
 codeSizes k n b = (leb 2 k && leb k 12) && ((ltb k n && (leb (n - k) 6 && leb (n - k) k)) && (leb 1 b && leb b 4096))
-
--- f 1 + .. + f k in the field
-unfoldable pub sum : ℕ → (ℕ → ℕ) → ℕ
-sum zero f = 0
-sum (suc k) f = bitXor (sum k f) (f (suc k))
 
 -- "The coefficient c(j,i) is the inverse of (j−1) XOR (i−1)"
 unfoldable pub coefficient : ℕ → ℕ → ℕ

@@ -4,6 +4,3 @@ pub mod View
 pub mod Determined
 pub mod Calls
 pub mod Demand2
-pub mod Combine
-pub mod Weights
-pub mod Kernel

@@ -1,21 +1,14 @@
-// The erasure code on the caller's buffers.
-ghost use mathlib.Core.Bool.{true};
+// The code: its sizes, its coefficients, sets of nodes, and the answers of encoding and decoding (which are in crate coding).
 ghost use mathlib.Core.Path.{_≡_};
-ghost use Prim.Native.Nat.{_*_};
-ghost use lib.ListN.{length};
-ghost use Rattle.code.specs.Code.{codeSizes};
-ghost use Rattle.code.specs.View.{nodeSetOf};
-ghost use Rattle.code.specs.Calls.{numberOf, encoding, someOutside, given, decoding};
+ghost use Prim.Native.Nat.{_≤_};
+ghost use Rattle.code.specs.Calls.{numberOf};
+ghost use Rattle.code.specs.Code;
 
-mod kernel; // kernel.rt: sums of blocks times weights
-mod encoding; // encoding.rt: the redundant blocks
-mod recovering; // recovering.rt: blocks from those of k nodes
-mod weights; // weights.rt: with what weight a block counts in another
 pub mod nodes; // nodes.rt: sets of nodes
+pub mod ranges; // ranges.rt: the limits of the sizes
 
 pub use nodes::NodeSet;
-pub use recovering::recover_table;
-pub use weights::coefficient;
+pub use ranges::Limits;
 
 // The answer of encoding and decoding.
 pub enum CodeAnswer {
@@ -41,125 +34,10 @@ impl CodeAnswer {
     }
 }
 
-// Whether the code has such sizes.
-fn in_limits(k: usize, n: usize, b: usize) -> bool
-    ensures { λ r. ⌜ r ≡ codeSizes k n b ⌝ }
+// c(j,i).
+pub fn coefficient(j: usize, i: usize) -> u8
+    requires { ⌜ (1 ≤ j) × (j ≤ 256) × (1 ≤ i) × (i ≤ 256) ⌝ }
+    ensures { λ r. ⌜ r ≡ Code.coefficient j i ⌝ }
 {
-    if k < 2 {
-        return false;
-    }
-    if 12 < k {
-        return false;
-    }
-    if n <= k {
-        return false;
-    }
-    if 6 < n - k {
-        return false;
-    }
-    if k < n - k {
-        return false;
-    }
-    if b < 1 {
-        return false;
-    }
-    if 4096 < b {
-        return false;
-    }
-    true
-}
-
-// The redundant blocks of the k data blocks lent, into out.
-pub fn encode(k: usize, n: usize, b: usize, blocks: &[u8], out: &mut [u8]) -> CodeAnswer
-    ensures { λ r. ⌜ encoding k n b (now (blocks .entry)) (now (out .entry)) ≡ record { answer = r; out = now (out .exit) } ⌝ }
-{
-    if !in_limits(k, n, b) {
-        return CodeAnswer::OutOfLimits;
-    }
-    if blocks.len() != k * b {
-        return CodeAnswer::OutOfLimits;
-    }
-    if out.len() != (n - k) * b {
-        return CodeAnswer::OutOfLimits;
-    }
-    encoding::redundant(k, n, b, blocks, out);
-    CodeAnswer::Accepted
-}
-
-// Whether some node given is not one of 1 to n.
-fn some_outside(n: usize, nodes: &[u8]) -> bool
-    ensures { λ r. ⌜ r ≡ someOutside n (now (nodes .entry)) ⌝ }
-{
-    let mut i = 0;
-    while i < nodes.len() {
-        let j = nodes[i] as usize;
-        if j < 1 {
-            return true;
-        }
-        if n < j {
-            return true;
-        }
-        i += 1;
-    }
-    false
-}
-
-// The set of the nodes given.
-fn set_of(nodes: &[u8]) -> NodeSet
-    ensures { λ r. ⌜ nodeSetOf r ≡ given (now (nodes .entry)) ⌝ }
-{
-    let mut set = NodeSet::none();
-    let mut i = 0;
-    while i < nodes.len() {
-        set = set.with(nodes[i] as usize);
-        i += 1;
-    }
-    set
-}
-
-// Decoding, once the sizes and the buffers fit.
-fn decode_sized(
-    k: usize,
-    n: usize,
-    b: usize,
-    nodes: &[u8],
-    blocks: &[u8],
-    out: &mut [u8],
-) -> CodeAnswer
-    requires { ⌜ (codeSizes k n b ≡ true) × (length (now blocks) ≡ n * b) × (length (now out) ≡ k * b) ⌝ }
-    ensures { λ r. ⌜ decoding k n b (now (nodes .entry)) (now (blocks .entry)) (now (out .entry)) ≡ record { answer = r; out = now (out .exit) } ⌝ }
-{
-    if some_outside(n, nodes) {
-        return CodeAnswer::OutOfRange;
-    }
-    let set = set_of(nodes);
-    let size = set.size();
-    if size < k {
-        return CodeAnswer::TooFew(size as u8);
-    }
-    recovering::recover_table(k, k, b, set, blocks, out);
-    CodeAnswer::Accepted
-}
-
-// The k data blocks, into out, from the blocks of the nodes given. Those stand in the table of n blocks; the others there are not read.
-pub fn decode(
-    k: usize,
-    n: usize,
-    b: usize,
-    nodes: &[u8],
-    blocks: &[u8],
-    out: &mut [u8],
-) -> CodeAnswer
-    ensures { λ r. ⌜ decoding k n b (now (nodes .entry)) (now (blocks .entry)) (now (out .entry)) ≡ record { answer = r; out = now (out .exit) } ⌝ }
-{
-    if !in_limits(k, n, b) {
-        return CodeAnswer::OutOfLimits;
-    }
-    if blocks.len() != n * b {
-        return CodeAnswer::OutOfLimits;
-    }
-    if out.len() != k * b {
-        return CodeAnswer::OutOfLimits;
-    }
-    decode_sized(k, n, b, nodes, blocks, out)
+    gf256::inverse((j - 1) as u8 ^ (i - 1) as u8)
 }

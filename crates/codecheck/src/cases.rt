@@ -69,7 +69,7 @@ fn print_lent(s: Sizes, word: &mut [u8], table: &mut [u8], data: &mut [u8], redu
     requires { ⌜ (length (now «data») ≤ 49152) × (length (now word) ≡ length (now «data») + length (now redundant)) ⌝ }
 {
     fill_data(s, data);
-    code::encode(s.k, s.n, s.b, data, redundant);
+    coding::encode(s.k, s.n, s.b, data, redundant);
     join(word, data, redundant);
     print_codeword(s, redundant);
     decodings::print(s, word, table, data, redundant);

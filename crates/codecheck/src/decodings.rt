@@ -38,8 +38,8 @@ fn decoded(
     blocks::copy(table, word);
     lose(s, set, &lost[0..b], table);
     let members = sets::members(set, s.n);
-    code::decode(k, s.n, b, &members[0..k], table, data);
-    code::encode(k, s.n, b, data, redundant);
+    coding::decode(k, s.n, b, &members[0..k], table, data);
+    coding::encode(k, s.n, b, data, redundant);
     checksum::after_all(checksum::after_all(h, data), redundant)
 }
 

@@ -35,7 +35,7 @@ pub extern "C" fn mezgaudre_encode(
 ) -> u32
     ensures { λ r. ⌜ answered (encoding k n b (now (blocks .entry)) (now (out .entry))) ≡ record { answer = r; out = now (out .exit) } ⌝ }
 {
-    answer_of(code::encode(k, n, b, blocks, out))
+    answer_of(coding::encode(k, n, b, blocks, out))
 }
 
 // The data blocks from the table's blocks of the nodes, into out.
@@ -50,7 +50,7 @@ pub extern "C" fn mezgaudre_decode(
 ) -> u32
     ensures { λ r. ⌜ answered (decoding k n b (now (nodes .entry)) (now (blocks .entry)) (now (out .entry))) ≡ record { answer = r; out = now (out .exit) } ⌝ }
 {
-    answer_of(code::decode(k, n, b, nodes, blocks, out))
+    answer_of(coding::decode(k, n, b, nodes, blocks, out))
 }
 
 #[no_mangle]

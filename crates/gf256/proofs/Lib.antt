@@ -1,3 +1,5 @@
 pub mod Xor
 pub mod Tables
 pub mod Laws
+pub mod Ring
+pub mod Sum

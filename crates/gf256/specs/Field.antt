@@ -34,6 +34,11 @@ inverse a = squares 7 (product a a)
 abbrev pub InverseIsInverse : Type 0
 InverseIsInverse = (a : ℕ) → 0 < a → a < 256 → product (inverse a) a ≡ 1
 
+-- f 1 + .. + f k
+unfoldable pub sum : ℕ → (ℕ → ℕ) → ℕ
+sum zero f = 0
+sum (suc k) f = bitXor (sum k f) (f (suc k))
+
 -- x^n
 unfoldable pub power : ℕ → ℕ
 power zero = 1

@@ -20,7 +20,7 @@ use Rattle.code.proofs.NodeSets.{lowest-has, lowest-chosen}
 use Rattle.code.proofs.Recover.{recovered-byte, recover-symbol}
 use Rattle.code.proofs.Sizes.{sizes-of}
 use Rattle.code.proofs.Sizes as Code
-use Rattle.code.proofs.Sum.{sum-ext, sum-zero}
+use Rattle.gf256.proofs.Sum.{sum-ext, sum-zero}
 use Rattle.code.proofs.Symbols.{symbol-data, symbol-redundant, symbol-ext, symbol-change, symbol-byte}
 use Rattle.records.specs.declared.Sizes.{Sizes}
 use Rattle.records.specs.Sizes.{sizesWithin}

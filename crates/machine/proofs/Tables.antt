@@ -24,7 +24,7 @@ use Rattle.code.specs.Code.{coefficient}
 use Rattle.code.specs.Decode.{NodeSet, size, lowest, recover, recovered, recoveredTable}
 use Rattle.code.proofs.NodeSets.{lowest-from}
 use Rattle.code.proofs.Recover.{recovered-ext, recovered-low, recovered-byte}
-use Rattle.code.proofs.Sum.{sum-zero}
+use Rattle.gf256.proofs.Sum.{sum-zero}
 use Rattle.records.specs.declared.Sizes.{Sizes}
 use Rattle.basics.proofs.Updates.{upd, upd-ind}
 use Rattle.basics.proofs.Tests.{cond-ind}

@@ -13,7 +13,7 @@ use crate::Stepped;
 use crate::admission::entrance;
 use crate::tables::tabled_entrance;
 use calls::Answer;
-use code::recover_table;
+use coding::recover_table;
 use entries::Epoch;
 use records::ClientRecord;
 use records::NodeAnswer;

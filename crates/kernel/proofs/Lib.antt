@@ -1,0 +1,6 @@
+pub mod Sixteen
+pub mod Horner
+pub mod Tiles
+pub mod Highest
+pub mod Columns
+pub mod Mixed

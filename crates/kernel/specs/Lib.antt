@@ -1,0 +1,3 @@
+pub mod Combine
+pub mod Lanes
+pub mod Working
