@@ -18,6 +18,7 @@ use Rattle.entries.proofs.Lists.{listOf-more}
 use Rattle.records.specs.declared.Sizes.{Sizes}
 use Rattle.records.specs.declared.Lmode.{Lmode}
 use Rattle.records.specs.declared.Lmode.the-variants.{Unl, L0, L1, Exp}
+use Rattle.records.specs.Sizes.{nodeLimit}
 use Rattle.records.specs.Node.{isUnl, isExp, isL0, isL1}
 use Rattle.records.specs.Client.{Rebuild, Picking, Locking, unlOrExp, rebuildWithin, lockedRebuild}
 use Rattle.records.specs.View.{oldLmode, oldLmodes}
@@ -31,7 +32,7 @@ pub lmodes-count : (x : ℕ) (expired : NodeSet) → length (oldLmodes x expired
 lmodes-count x expired = length-listOf x (old (nodeSetOf expired))
 
 -- one more, which was l
-module _ (x : ℕ) (l : Lmode) (free : (isL0 l || isL1 l) ≡ false) (below : x < 18) (expired r : NodeSet)
+module _ (x : ℕ) (l : Lmode) (free : (isL0 l || isL1 l) ≡ false) (below : x < nodeLimit) (expired r : NodeSet)
     (put : nodeSetOf r ≡ cond (isExp l) (including (x + 1) (nodeSetOf expired)) (excluding (x + 1) (nodeSetOf expired))) where
   is : (l : Lmode) → (isL0 l || isL1 l) ≡ false → oldLmode (isExp l) ≡ l
   is Unl free = refl

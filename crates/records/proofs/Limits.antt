@@ -12,7 +12,7 @@ use Rattle.basics.proofs.Tests.{and-left, and-right}
 use Rattle.code.specs.Code.{codeSizes}
 use Rattle.code.proofs.Sizes.{sizes-of}
 use Rattle.entries.specs.declared.WriteId.{WriteId}
-use Rattle.entries.specs.Entries.{finishedLimit, idsWithin}
+use Rattle.entries.specs.Entries.{entryLimit, finishedLimit, idsWithin}
 use Rattle.entries.specs.View.{entriesOf}
 use Rattle.entries.proofs.Lists.{entries-count}
 use Rattle.records.specs.declared.Sizes.{Sizes}
@@ -20,7 +20,7 @@ use Rattle.records.specs.declared.Lmode.{Lmode}
 use Rattle.records.specs.declared.Lmode.the-variants.{Unl, L0, L1, Exp}
 use Rattle.records.specs.declared.Holder.the-variants as Holder
 use Rattle.records.specs.declared.NodeRecord.{NodeRecord}
-use Rattle.records.specs.Sizes.{sizesWithin, isClient}
+use Rattle.records.specs.Sizes.{nodeLimit, sizesWithin, isClient}
 use Rattle.records.specs.Node.{isL0, isL1, holderWithin, nodeWithin}
 use Rattle.records.specs.Client.{Client, Write, handWithin, rebuildWithin, clientWithin}
 use Rattle.records.specs.ClientSteps.{listsWithin}
@@ -41,17 +41,16 @@ client-within z Exp c = refl
 
 -- ---- a client
 
--- n is at most 12 + 6
-pub nodes-few : (z : Sizes) → sizesWithin z ≡ true → z .n ≤ 18
+pub nodes-few : (z : Sizes) → sizesWithin z ≡ true → z .n ≤ nodeLimit
 unfolding sizesWithin
 nodes-few z e = omega (arith, sizes-of (z .k) (z .n) (z .b) (and-left (codeSizes (z .k) (z .n) (z .b)) _ e))
 
 -- within its limits a hand leaves at most 8 finished ids
 hand-room : (z : Sizes) (hand : Option Write) (ids : List WriteId) → handWithin z hand ids ≡ true → leb (length ids) finishedLimit ≡ true
 hand-room z none ids e = e
-hand-room z (some w) ids e = le-leb (length ids) 8 (omega (arith, few))
+hand-room z (some w) ids e = le-leb (length ids) finishedLimit (omega (arith, few))
   where
-    few : length ids < 8
+    few : length ids < finishedLimit
     few = search (and-right, ltb-true)
 
 -- so the test of the finished list's length may stand beside that of its ids
@@ -66,8 +65,8 @@ client-tests z x =
     beside false r l f m i w e = refl
 
 -- a record within the limits has few entries
-pub few-entries : (z : Sizes) (x : NodeRecord) → nodeWithin z (nodeOf x) ≡ true → x .entries .count ≤ 16
+pub few-entries : (z : Sizes) (x : NodeRecord) → nodeWithin z (nodeOf x) ≡ true → x .entries .count ≤ entryLimit
 unfolding nodeWithin
 few-entries z x e =
-    let few : length (entriesOf (x .entries)) ≤ 16 = search (and-left, and-right, leb-true) in
+    let few : length (entriesOf (x .entries)) ≤ entryLimit = search (and-left, and-right, leb-true) in
     omega (arith, entries-count (x .entries))

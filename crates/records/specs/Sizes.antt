@@ -6,9 +6,19 @@ use Rattle.code.specs.Code.{codeSizes}
 use Rattle.entries.specs.Entries.{isUpTo}
 use Rattle.records.specs.declared.Sizes.{Sizes}
 
--- "clients m are 1 to 8; t_d, the node failures planned for, is 0 to n−k"; k, n and B as for the code
+-- "clients m are 1 to 8"; "k is 2 to 12; n−k is 1 to 6", so there are at most 18 nodes
+abbrev pub clientLimit : ℕ
+clientLimit = 8
+
+abbrev pub dataLimit : ℕ
+dataLimit = 12
+
+abbrev pub nodeLimit : ℕ
+nodeLimit = 18
+
+-- "t_d, the node failures planned for, is 0 to n−k"; k, n and B as for the code
 unfoldable pub sizesWithin : Sizes → Bool
-sizesWithin z = codeSizes (z .k) (z .n) (z .b) && (leb (z .failures) (z .n - z .k) && (leb 1 (z .m) && leb (z .m) 8))
+sizesWithin z = codeSizes (z .k) (z .n) (z .b) && (leb (z .failures) (z .n - z .k) && (leb 1 (z .m) && leb (z .m) clientLimit))
 
 -- "Nodes are 1 to n; 1 to k hold data, k+1 to n are redundant"
 abbrev pub isNode : Sizes → ℕ → Bool

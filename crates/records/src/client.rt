@@ -9,7 +9,7 @@ ghost use Rattle.code.specs.Decode.{noNodes, including, excluding};
 ghost use Rattle.code.specs.View.{nodeSetOf};
 ghost use Rattle.entries.specs.Entries.{writeLimit, finishedLimit};
 ghost use Rattle.entries.specs.View.{idsOf};
-ghost use Rattle.records.specs.Sizes.{sizesWithin};
+ghost use Rattle.records.specs.Sizes.{dataLimit, nodeLimit, sizesWithin};
 ghost use Rattle.records.specs.Node.{isL0, isL1};
 ghost use Rattle.records.specs.Client.{NoRebuild, Picking, Writing, freshClient, stopped, withHand, withRebuild, began, finishedWrite, sweptOn, hasWrite, hasRebuild, remembered, nextNode, lockedRebuild, nextRebuild, handWithin, rebuildWithin, clientWithin};
 ghost use Rattle.records.specs.ClientSteps.{listsWithin, idleClient};
@@ -93,7 +93,7 @@ impl Phase {
 
     // After the lock of the next node, whose lmode was old, where x are locked of which those in `expired` were EXP.
     fn locked(x: u8, expired: NodeSet, old: Lmode, n: usize) -> Self
-        requires { ⌜ ((isL0 old || isL1 old) ≡ false) × (x < 18) ⌝ }
+        requires { ⌜ ((isL0 old || isL1 old) ≡ false) × (x < nodeLimit) ⌝ }
         ensures { λ r. ⌜ rebuildOf r ≡ lockedRebuild n old (oldLmodes x expired) ⌝ }
     {
         let j = x as usize + 1;
@@ -106,7 +106,7 @@ impl Phase {
 
     // The same of the phase before it.
     fn lock(self, old: Lmode, n: usize) -> Self
-        requires { ⌜ ((isL0 old || isL1 old) ≡ false) × (length (remembered (rebuildOf self)) < 18) ⌝ }
+        requires { ⌜ ((isL0 old || isL1 old) ≡ false) × (length (remembered (rebuildOf self)) < nodeLimit) ⌝ }
         ensures { λ r. ⌜ rebuildOf r ≡ lockedRebuild n old (remembered (rebuildOf self)) ⌝ }
     {
         let nobody = NodeSet::none();
@@ -122,7 +122,7 @@ impl Phase {
 
     // After a tighten, a write, a settle or an unlock of the phase's node.
     fn next(self, n: usize) -> Self
-        requires { ⌜ n ≤ 18 ⌝ }
+        requires { ⌜ n ≤ nodeLimit ⌝ }
         ensures { λ r. ⌜ rebuildOf r ≡ nextRebuild n (rebuildOf self) ⌝ }
     {
         match self {
@@ -336,7 +336,7 @@ impl ClientRecord {
 
     // The node of the round's next sweep.
     pub fn sweep_node(self, n: usize) -> u8
-        requires { ⌜ (1 ≤ n) × (n ≤ 18) ⌝ }
+        requires { ⌜ (1 ≤ n) × (n ≤ nodeLimit) ⌝ }
         ensures { λ r. ⌜ r ≡ cond (ltb (self .round) n) (self .round + 1) (self .round - n + 1) ⌝ }
     {
         let round = self.round;
@@ -349,7 +349,7 @@ impl ClientRecord {
 
     // One more sweep of the round, which ends after 2n.
     pub fn sweep_on(self, n: usize) -> Self
-        requires { ⌜ (self .round < 2 * n) × (n ≤ 18) ⌝ }
+        requires { ⌜ (self .round < 2 * n) × (n ≤ nodeLimit) ⌝ }
         ensures { λ r. ⌜ clientOf r ≡ sweptOn n (clientOf self) ⌝ }
     {
         let mut client = self;
@@ -393,7 +393,7 @@ impl ClientRecord {
 
     // After the lock of the next node, whose lmode was old.
     pub fn lock(self, old: Lmode, n: usize) -> Self
-        requires { ⌜ ((isL0 old || isL1 old) ≡ false) × (length (remembered (clientOf self .rebuild)) < 18) ⌝ }
+        requires { ⌜ ((isL0 old || isL1 old) ≡ false) × (length (remembered (clientOf self .rebuild)) < nodeLimit) ⌝ }
         ensures { λ r. ⌜ clientOf r ≡ withRebuild (lockedRebuild n old (remembered (clientOf self .rebuild))) (clientOf self) ⌝ }
     {
         let phase = self.phase;
@@ -408,7 +408,7 @@ impl ClientRecord {
 
     // After a weaken: node k + 1 is the lowest not tightened.
     pub fn weaken(self, k: usize) -> Self
-        requires { ⌜ k ≤ 12 ⌝ }
+        requires { ⌜ k ≤ dataLimit ⌝ }
         ensures { λ r. ⌜ clientOf r ≡ withRebuild (Picking (k + 1)) (clientOf self) ⌝ }
     {
         self.with_phase(Phase::Picking(k as u8 + 1))
@@ -416,7 +416,7 @@ impl ClientRecord {
 
     // After a tighten, a write, a settle or an unlock of the phase's node.
     pub fn advance(self, n: usize) -> Self
-        requires { ⌜ n ≤ 18 ⌝ }
+        requires { ⌜ n ≤ nodeLimit ⌝ }
         ensures { λ r. ⌜ clientOf r ≡ withRebuild (nextRebuild n (clientOf self .rebuild)) (clientOf self) ⌝ }
     {
         let phase = self.phase;

@@ -5,7 +5,7 @@ mod node; // node.rt: a node's record and its calls
 mod ranges; // ranges.rt: the ranges of numbers, the limits of the sizes
 
 ghost use mathlib.Core.Path.{_≡_};
-ghost use Rattle.records.specs.Refusals.{numberOf};
+ghost use Rattle.records.specs.Refusals.{numberOf, returnedWith};
 use code::NodeSet;
 use entries::Entries;
 use entries::Epoch;
@@ -105,7 +105,7 @@ pub enum ClientCall {
     Quit,
 }
 
-// Why a call is refused, with what is returned.
+// Why a call is refused.
 pub enum Refusal {
     OutOfLimits,
     OutOfRange,
@@ -119,6 +119,15 @@ pub enum Refusal {
     NotHeld,
     TooFew(u8),
     NoInverse,
+}
+
+// What a call returns with a refusal.
+pub enum Returned {
+    Nothing,
+    Modes(Opmode, Lmode),
+    NodeEpoch(Epoch),
+    PreviousId(WriteId),
+    SetSize(u8),
 }
 
 pub enum NodeAnswer {
@@ -168,6 +177,26 @@ impl Refusal {
             Refusal::NotHeld => 10,
             Refusal::TooFew(_) => 11,
             Refusal::NoInverse => 12,
+        }
+    }
+
+    // What that table has beside the number.
+    pub fn returned(self) -> Returned
+        ensures { λ r. ⌜ r ≡ returnedWith self ⌝ }
+    {
+        match self {
+            Refusal::OutOfLimits => Returned::Nothing,
+            Refusal::OutOfRange => Returned::Nothing,
+            Refusal::OutOfPhase => Returned::Nothing,
+            Refusal::WrongMode(opmode, lmode) => Returned::Modes(opmode, lmode),
+            Refusal::OldEpoch(epoch) => Returned::NodeEpoch(epoch),
+            Refusal::BeforePrevious(id) => Returned::PreviousId(id),
+            Refusal::Full => Returned::Nothing,
+            Refusal::Exhausted => Returned::Nothing,
+            Refusal::Locked => Returned::Nothing,
+            Refusal::NotHeld => Returned::Nothing,
+            Refusal::TooFew(size) => Returned::SetSize(size),
+            Refusal::NoInverse => Returned::Nothing,
         }
     }
 }

@@ -6,6 +6,7 @@ ghost use lib.Dec.{leb, ltb};
 ghost use Rattle.code.specs.Code.{codeSizes};
 ghost use Rattle.records.specs.Sizes.{sizesWithin, isNode, isPosition, isRedundant, isClient};
 use crate::Sizes;
+use code::NodeSet;
 use entries::is_up_to;
 
 fn is_between(x: usize, low: usize, high: usize) -> bool
@@ -30,6 +31,8 @@ fn is_code(k: usize, n: usize, b: usize) -> bool
 
 impl Sizes {
     pub const CLIENTS: usize = 8;
+
+    pub const NODES: usize = NodeSet::NODES;
 
     pub fn within(self) -> bool
         ensures { λ r. ⌜ r ≡ sizesWithin self ⌝ }

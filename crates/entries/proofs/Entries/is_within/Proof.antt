@@ -2,6 +2,7 @@
 use mathlib.Core.Bool.{Bool·not-not}
 use borrow.Author.Needs.{needs}
 use borrow.Author.Tests.{le-leb, lt-leb}
+use Rattle.entries.specs.Entries.{entryLimit}
 use Rattle.entries.proofs.Lists.{entries-count}
 use Rattle.entries.proofs.Entries.is_within.Statement.{statement}
 use Rattle.entries.proofs.Entries.is_within.Tie as tie
@@ -13,5 +14,5 @@ is-within-spec =
     (λ c κs. search needs)
     (λ c.
     let s = c .before .before .before .args .self in
-    rw (entries-count s, le-leb (s .count) 16 (c .before .if1 .taken), c .some-outside .ensures) (Bool·not-not _))
-    (λ c. let s = c .before .before .args .self in rw (entries-count s, lt-leb (s .count) 16 (c .if1 .left))))
+    rw (entries-count s, le-leb (s .count) entryLimit (c .before .if1 .taken), c .some-outside .ensures) (Bool·not-not _))
+    (λ c. let s = c .before .before .args .self in rw (entries-count s, lt-leb (s .count) entryLimit (c .if1 .left))))

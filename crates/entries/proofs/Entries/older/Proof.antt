@@ -4,6 +4,7 @@ use Prim.Native.Nat.{_-_}
 use native.Mathlib.Omega.{arith}
 use lib.ListN.{length}
 use borrow.Author.Needs.{needs}
+use Rattle.entries.specs.Entries.{entryLimit}
 use Rattle.entries.proofs.Lists.{length-array, Aged, age-start, age-on, age-end}
 use Rattle.entries.proofs.Entries.older.Statement.{statement}
 use Rattle.entries.proofs.Entries.older.Tie as tie
@@ -20,7 +21,7 @@ older-spec =
     (tie.spec
     Inv-loop
     μ-loop
-    (λ c. let l : length (c .before .args .self .items) ≡ 16 = search length-array in age-start (omega (arith, l)))
+    (λ c. let l : length (c .before .args .self .items) ≡ entryLimit = search length-array in age-start (omega (arith, l)))
     (λ c. search needs)
     (λ c. search needs)
     (λ c κs. search needs)

@@ -4,7 +4,7 @@ use mathlib.Core.Bool.{not, and-true}
 use native.Mathlib.Omega.{arith}
 use borrow.Author.Tests.{le-leb}
 use borrow.Author.Needs.{needs}
-use Rattle.entries.specs.Entries.{idWithin}
+use Rattle.entries.specs.Entries.{ageLimit, idWithin}
 use Rattle.entries.specs.View.{entryOf}
 use Rattle.entries.proofs.Entry.is_outside.Statement.{statement}
 use Rattle.entries.proofs.Entry.is_outside.Tie as tie
@@ -17,4 +17,4 @@ is-outside-spec =
     (λ c κs. search needs)
     (λ c.
     let e = c .before .before .args .self in
-    rw (le-leb (e .age .0) 255 (omega arith), and-true (idWithin _ _ (entryOf e .id))) (ap not (c .is-within .ensures ∙ ap (idWithin _ _) (c .before .id .ensures)))))
+    rw (le-leb (e .age .0) ageLimit (omega arith), and-true (idWithin _ _ (entryOf e .id))) (ap not (c .is-within .ensures ∙ ap (idWithin _ _) (c .before .id .ensures)))))

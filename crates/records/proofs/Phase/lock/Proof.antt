@@ -3,6 +3,7 @@ use native.Mathlib.Omega.{arith}
 use lib.ListN.{length}
 use Prim.Native.Nat.{_<_}
 use Rattle.basics.specs.Lists.{listOf}
+use Rattle.records.specs.Sizes.{nodeLimit}
 use Rattle.records.specs.View.{oldLmodes}
 use Rattle.records.proofs.Clients.{lmodes-count}
 use borrow.Author.Needs.{needs}
@@ -20,7 +21,7 @@ lock-spec =
     (λ c. search needs)
     (λ c κs.
     let b = c .before .before .before .before in
-    let q : length (oldLmodes (c .before .self .given .0 .0) (c .before .self .given .0 .1 .0)) < 18 = rw (c .before .self .given .1) at (b .pre .1) in
+    let q : length (oldLmodes (c .before .self .given .0 .0) (c .before .self .given .0 .1 .0)) < nodeLimit = rw (c .before .self .given .1) at (b .pre .1) in
     (b .pre .0, omega (arith, lmodes-count (c .before .self .given .0 .0) (c .before .self .given .0 .1 .0))))
     (λ c. search needs)
     (λ c κs. search needs)

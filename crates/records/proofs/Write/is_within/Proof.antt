@@ -3,6 +3,7 @@ use borrow.Author.Tests.{le-leb}
 use borrow.Author.Needs.{needs}
 use Rattle.entries.proofs.Lists.{ids-count}
 use Rattle.entries.proofs.Tests.{tests}
+use Rattle.records.specs.Node.{epochLimit}
 use Rattle.records.proofs.Write.is_within.Statement.{statement}
 use Rattle.records.proofs.Write.is_within.Tie as tie
 
@@ -22,7 +23,7 @@ is-within-spec =
       id .if1 .taken,
       ← previous .before .is-within2 .ensures,
       previous .if2 .taken,
-      le-leb (a .self .epoch .0) 1000000 (c .before .before .before .if3 .taken),
+      le-leb (a .self .epoch .0) epochLimit (c .before .before .before .if3 .taken),
       ← c .before .before .is-within3 .ensures,
       c .before .if4 .taken,
       ids-count (a .finished),
