@@ -4,9 +4,7 @@ use mathlib.Core.List.{List, [], _∷_}
 use Prim.Native.Nat.{ℕ}
 use lib.Dec.{leb}
 use Rattle.entries.specs.declared.WriteId.{WriteId}
-use Rattle.entries.specs.declared.Mark.the-variants.{Recent, Old}
-use Rattle.entries.specs.declared.Previous.{Previous}
-use Rattle.entries.specs.declared.Previous.the-variants.{Id}
+use Rattle.entries.specs.declared.Mark.the-variants.{Old}
 use Rattle.entries.specs.declared.write_ids.IdTest.{IdTest}
 use Rattle.entries.specs.declared.write_ids.IdTest.the-variants as IdTest
 use Rattle.entries.specs.declared.node_entries.EntryTest.{EntryTest}

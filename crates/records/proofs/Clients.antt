@@ -3,7 +3,6 @@ use mathlib.Core.Path.{_≡_, refl, sym, ap₂, _∙_}
 use mathlib.Core.Bool.{Bool, true, false, cond, _&&_, _||_, and-true, and-assoc}
 use mathlib.Core.List.{List, [], _∷_, _++_}
 use Prim.Native.Nat.{ℕ, zero, suc, _+_, _≤_, _<_}
-use native.Mathlib.Numerals.{add-one}
 use native.Mathlib.Omega.{arith}
 use lib.Dec.{eqb, leb, ltb}
 use lib.ListN.{length}
@@ -20,7 +19,7 @@ use Rattle.records.specs.declared.Lmode.{Lmode}
 use Rattle.records.specs.declared.Lmode.the-variants.{Unl, L0, L1, Exp}
 use Rattle.records.specs.Sizes.{nodeLimit}
 use Rattle.records.specs.Node.{isUnl, isExp, isL0, isL1}
-use Rattle.records.specs.Client.{Rebuild, Picking, Locking, unlOrExp, rebuildWithin, lockedRebuild}
+use Rattle.records.specs.Client.{Picking, Locking, unlOrExp, rebuildWithin, lockedRebuild}
 use Rattle.records.specs.View.{oldLmode, oldLmodes}
 
 -- ---- the old lmodes of x nodes, of which those in s were EXP

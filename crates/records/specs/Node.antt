@@ -1,8 +1,8 @@
 -- Document 01, "Records": a node's record, and what the calls do to one record. Assumes nothing.
-use mathlib.Core.Bool.{Bool, true, false, cond, _&&_, _||_, not}
+use mathlib.Core.Bool.{Bool, true, false, cond, _&&_, _||_}
 use mathlib.Core.List.{List, []}
 use Prim.Native.Nat.{ℕ, _+_}
-use lib.Dec.{eqb, leb, ltb}
+use lib.Dec.{eqb, leb}
 use lib.ListN.{length}
 use Rattle.code.specs.Decode.{NodeSet, noNodes}
 unfoldable pub use Rattle.code.specs.Decode.{setWithin}

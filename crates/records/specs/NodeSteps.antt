@@ -1,6 +1,6 @@
 -- Document 01, "Writing" and "Rebuild": what one node answers to a call, and what a call's contract says of a node's record. Assumes nothing.
 use mathlib.Core.Path.{_≡_}
-use mathlib.Core.Bool.{Bool, true, false, cond, _||_, not}
+use mathlib.Core.Bool.{Bool, cond, _||_, not}
 use mathlib.Core.List.{[]}
 use Prim.Native.Nat.{ℕ}
 use lib.Dec.{leb, ltb}

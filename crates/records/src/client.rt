@@ -1,8 +1,8 @@
 // A client's record: each step takes it by value and hands it back.
-ghost use mathlib.Core.Bool.{true, false, cond, _||_};
+ghost use mathlib.Core.Bool.{true, false, _||_};
 ghost use mathlib.Core.Option.{none, some};
 ghost use mathlib.Core.Path.{_≡_};
-ghost use Prim.Native.Nat.{_+_, _-_, _*_, _<_, _≤_};
+ghost use Prim.Native.Nat.{_+_, _*_, _<_, _≤_};
 ghost use lib.Dec.{ltb};
 ghost use lib.ListN.{length};
 ghost use Rattle.code.specs.Decode.{noNodes, including, excluding};
@@ -332,19 +332,6 @@ impl ClientRecord {
         ensures { λ r. ⌜ r ≡ ltb (self .round) n ⌝ }
     {
         (self.round as usize) < n
-    }
-
-    // The node of the round's next sweep.
-    pub fn sweep_node(self, n: usize) -> u8
-        requires { ⌜ (1 ≤ n) × (n ≤ nodeLimit) ⌝ }
-        ensures { λ r. ⌜ r ≡ cond (ltb (self .round) n) (self .round + 1) (self .round - n + 1) ⌝ }
-    {
-        let round = self.round;
-        if (round as usize) < n {
-            round + 1
-        } else {
-            round - n as u8 + 1
-        }
     }
 
     // One more sweep of the round, which ends after 2n.

@@ -59,7 +59,7 @@ impl Opmode {
 }
 
 impl Lmode {
-    pub fn is_unl(self) -> bool
+    fn is_unl(self) -> bool
         ensures { λ r. ⌜ r ≡ isUnl self ⌝ }
     {
         match self {
@@ -70,7 +70,7 @@ impl Lmode {
         }
     }
 
-    pub fn is_exp(self) -> bool
+    pub(crate) fn is_exp(self) -> bool
         ensures { λ r. ⌜ r ≡ isExp self ⌝ }
     {
         match self {
@@ -81,7 +81,7 @@ impl Lmode {
         }
     }
 
-    pub fn is_l1(self) -> bool
+    fn is_l1(self) -> bool
         ensures { λ r. ⌜ r ≡ isL1 self ⌝ }
     {
         match self {
@@ -92,7 +92,7 @@ impl Lmode {
         }
     }
 
-    pub fn is_locked(self) -> bool
+    fn is_locked(self) -> bool
         ensures { λ r. ⌜ r ≡ (isL0 self || isL1 self) ⌝ }
     {
         match self {
@@ -103,7 +103,7 @@ impl Lmode {
         }
     }
 
-    pub fn takes_add(self) -> bool
+    fn takes_add(self) -> bool
         ensures { λ r. ⌜ r ≡ (isUnl self || isL0 self) ⌝ }
     {
         match self {
@@ -116,7 +116,7 @@ impl Lmode {
 }
 
 impl Holder {
-    pub fn is(self, c: u8) -> bool
+    fn is(self, c: u8) -> bool
         ensures { λ r. ⌜ r ≡ isHolder c self ⌝ }
     {
         match self {
@@ -126,7 +126,7 @@ impl Holder {
     }
 
     // A holder at L0 and L1 alone, and it is one of the clients.
-    pub fn is_within(self, lmode: Lmode, z: Sizes) -> bool
+    fn is_within(self, lmode: Lmode, z: Sizes) -> bool
         ensures { λ r. ⌜ r ≡ holderWithin z lmode self ⌝ }
     {
         match self {
@@ -468,7 +468,7 @@ impl NodeRecord {
 
     // ---- the record after a call
 
-    pub fn locked_by(self, c: u8) -> Self
+    fn locked_by(self, c: u8) -> Self
         ensures { λ r. ⌜ nodeOf r ≡ lockedBy c (nodeOf self) ⌝ }
     {
         self.with_lmode(Lmode::L1, Holder::Client(c))
@@ -480,7 +480,7 @@ impl NodeRecord {
         self.with_lmode(Lmode::L0, Holder::Client(c))
     }
 
-    pub fn unlocked(self) -> Self
+    fn unlocked(self) -> Self
         ensures { λ r. ⌜ nodeOf r ≡ unlocked (nodeOf self) ⌝ }
     {
         self.with_lmode(Lmode::Unl, Holder::Nobody)
@@ -502,7 +502,7 @@ impl NodeRecord {
         self.given_back(c, Lmode::Exp)
     }
 
-    pub fn written(self, epoch: Epoch, set: NodeSet) -> Self
+    fn written(self, epoch: Epoch, set: NodeSet) -> Self
         ensures { λ r. ⌜ nodeOf r ≡ written epoch (nodeSetOf set) (nodeOf self) ⌝ }
     {
         let lmode = self.lmode;
@@ -518,7 +518,7 @@ impl NodeRecord {
         }
     }
 
-    pub fn settled(self, epoch: Epoch) -> Self
+    fn settled(self, epoch: Epoch) -> Self
         requires { ⌜ epoch .0 < epochLimit ⌝ }
         ensures { λ r. ⌜ nodeOf r ≡ settled epoch (nodeOf self) ⌝ }
     {

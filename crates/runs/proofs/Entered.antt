@@ -1,15 +1,19 @@
 -- Demand 3 of every list of calls of the entry points of shelf. Assumes nothing.
-use mathlib.Core.Path.{_≡_}
+use mathlib.Core.Path.{_≡_, refl}
 use mathlib.Core.Logic.{_⊎_}
-use mathlib.Core.Bool.{not, _&&_}
-use lib.Dec.{eqb}
-use lib.ListN.{length}
+use mathlib.Core.List.{List, _∷_, map}
+use Prim.Native.Nat.{ℕ, zero, suc, _*_}
+use lib.ListN.{replicate}
 use Rattle.machine.specs.Stripe as Machine
-use Rattle.machine.specs.Stripe.{number}
+use Rattle.machine.specs.Stripe.{number, fresh}
 use Rattle.machine.specs.Calls as Calls
+use Rattle.records.specs.declared.ClientRecord.{ClientRecord}
+use Rattle.records.specs.declared.NodeRecord.{NodeRecord}
 use Rattle.records.specs.declared.Sizes.{Sizes}
-use Rattle.calls.specs.Calls.{stepOf}
-use Rattle.shelf.specs.Table.{clientsIn, nodesIn}
+use Rattle.records.specs.Client.{freshClient}
+use Rattle.records.specs.Node.{freshNode}
+use Rattle.records.specs.View.{clientOf, nodeOf}
+use Rattle.shelf.specs.Table.{clientsIn}
 use Rattle.runs.specs.Entered.{Tables, tablesOf, Enters, stepped, picked, shown, Demand3Entered}
 use Rattle.runs.proofs.Runs.{Stepped, guarded, demand3-of}
 
@@ -17,13 +21,31 @@ use Rattle.runs.proofs.Runs.{Stepped, guarded, demand3-of}
 enters-step : (z y : Sizes) (t : Tables) (call : Calls.Call) (a : Machine.Answer) (t′ : Tables) → (y ≡ z) ⊎ (number a ≡ 1) → Enters t y call a t′
     → Stepped z call (tablesOf z t) a (tablesOf z t′)
 enters-step z y t call a t′ permitted (stepped q value answer after s) =
-    guarded z call (tablesOf z t) (not (eqb (length (nodesIn (t .nodes))) (y .n) && eqb (length (clientsIn (t .clients))) (y .m))) permitted (s .said)
+    guarded z call (tablesOf z t) _ permitted (s .said)
 enters-step z y t call a t′ permitted (picked q answer nodes clients spare p) =
-    guarded z call (tablesOf z t) (not (eqb (length (nodesIn (t .nodes))) (y .n) && eqb (length (clientsIn (t .clients))) (y .m))) permitted
+    guarded z call (tablesOf z t) _ permitted
     (p (t .differences) .said)
 enters-step z y t call a t′ permitted (shown q out answer out′ r) =
-    guarded z call (tablesOf z t) (not (eqb (length (nodesIn (t .nodes))) (y .n) && eqb (length out) (y .b))) permitted
+    guarded z call (tablesOf z t) _ permitted
     (r (clientsIn (t .clients)) (t .spare) (t .differences) .said)
 
 pub demand3-entered : Demand3Entered
 demand3-entered = demand3-of tablesOf Enters enters-step
+
+-- n records and m records, as `NodeRecord::fresh()` and `ClientRecord::fresh()` ensure them, and blocks of zeros are a fresh stripe
+map-replicate : {A B : Type 0} (f : A → B) (n : ℕ) (x : A) (y : B) → f x ≡ y → map f (replicate n x) ≡ replicate n y
+map-replicate f zero x y e = refl
+map-replicate f (suc n) x y e = λ i. e i ∷ map-replicate f n x y e i
+
+pub fresh-tables : (z : Sizes) (node : NodeRecord) (client : ClientRecord) (spare differences : List ℕ) → nodeOf node ≡ freshNode → clientOf client ≡ freshClient
+    → tablesOf z
+    (record { nodes = replicate (z .n) node; clients = replicate (z .m) client; blocks = replicate (z .n * z .b) 0; spare = spare; differences = differences })
+    ≡ fresh z spare differences
+fresh-tables z node client spare differences e h =
+    λ i. record {
+      nodes = map-replicate nodeOf (z .n) node freshNode e i;
+      clients = map-replicate clientOf (z .m) client freshClient h i;
+      blocks = replicate (z .n * z .b) 0;
+      spare = spare;
+      differences = differences;
+    }

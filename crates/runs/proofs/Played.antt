@@ -1,13 +1,13 @@
 -- Demand 3 of every list of calls of `step::play`. Assumes nothing.
-use mathlib.Core.Path.{_≡_, refl, sym, ap, subst, _∙_}
+use mathlib.Core.Path.{_≡_, refl, ap, subst}
 use mathlib.Core.Logic.{_⊎_, inl, inr}
-use mathlib.Core.Bool.{true, false, not}
-use mathlib.Core.List.{List, []}
-use Prim.Native.Nat.{ℕ, _*_}
+use mathlib.Core.Bool.{not}
+use mathlib.Core.List.{List}
+use Prim.Native.Nat.{ℕ}
 use native.Mathlib.Omega.{arith}
 use lib.Dec.{eqb}
-use lib.ListN.{length, replicate}
-use Rattle.machine.specs.Stripe.{number, answered, guard}
+use lib.ListN.{length}
+use Rattle.machine.specs.Stripe.{number, answered}
 use Rattle.machine.specs.Stripe as Machine
 use Rattle.machine.specs.Calls as Calls
 use Rattle.records.specs.declared.Sizes.{Sizes}
@@ -22,7 +22,7 @@ use Rattle.calls.specs.declared.Call.{Call}
 use Rattle.calls.specs.declared.Call.the-variants.{Read, Pick, Step}
 use Rattle.calls.specs.Calls.{callOf}
 use Rattle.step.specs.View.{Stored, storedOf}
-use Rattle.step.specs.Plays.{Plays, playing, shownBy}
+use Rattle.step.specs.Plays.{playing, shownBy}
 use Rattle.runs.specs.Played.{PlaysOne, played, Demand3Played}
 use Rattle.runs.proofs.Runs.{Stepped, refused-one, guarded, demand3-of}
 
@@ -63,7 +63,8 @@ steps-one : (z y : Sizes) (s : Stored) (call : Calls.Call) (a : Machine.Answer) 
     → Stepped z call (storedOf z s) a (storedOf z s′)
 steps-one z y s call a s′ permitted (played {call = c} {value = value} {shown = shown} {answer = answer} {shown′ = shown′} p) = by permitted
   where
-    by : (y ≡ z) ⊎ (number (answerOf answer (shownBy c shown′)) ≡ 1) → Stepped z (callOf c value) (storedOf z s) (answerOf answer (shownBy c shown′)) (storedOf z s′)
+    by : (y ≡ z) ⊎ (number (answerOf answer (shownBy c shown′)) ≡ 1)
+        → Stepped z (callOf c value) (storedOf z s) (answerOf answer (shownBy c shown′)) (storedOf z s′)
     by (inl e) =
         plays-step z c value shown (storedOf z s)
         (subst (λ z. answered (answerOf answer (shownBy c shown′)) (storedOf z s′) ≡ playing z c value shown (storedOf z s)) e (p .said))

@@ -19,7 +19,7 @@ use Rattle.machine.proofs.Theorem.{demand3}
 use Rattle.records.specs.declared.Sizes.{Sizes}
 use Rattle.records.specs.declared.Refusal.the-variants.{OutOfLimits}
 use Rattle.records.specs.Sizes.{sizesWithin}
-use Rattle.runs.specs.Runs.{Begun, Permitted, Run, begun, called, Demand3Of}
+use Rattle.runs.specs.Runs.{Begun, Run, begun, called, Demand3Of}
 
 -- sizes outside the limits
 abbrev none : Sizes

@@ -8,10 +8,11 @@ ghost use Rattle.records.specs.Client.{freshClient};
 ghost use Rattle.records.specs.View.{clientOf};
 ghost use Rattle.step.specs.View.{clientsOf};
 use records::ClientRecord;
+use records::Sizes;
 
 // Client c is item c - 1; a stripe of m clients has the first m items.
 pub struct Clients {
-    pub items: [ClientRecord; 8],
+    pub items: [ClientRecord; Sizes::CLIENTS],
 }
 
 impl Clients {
@@ -19,7 +20,7 @@ impl Clients {
         ensures { λ r. ⌜ ((m : ℕ) → m ≤ 8 → clientsOf m r ≡ replicate m freshClient) ⌝ }
     {
         let client = ClientRecord::fresh();
-        let items = [client; 8];
+        let items = [client; Sizes::CLIENTS];
         Clients { items }
     }
 

@@ -8,13 +8,14 @@ ghost use Rattle.records.specs.Node.{freshNode};
 ghost use Rattle.records.specs.View.{nodeOf};
 ghost use Rattle.stripe.specs.View.{nodesOf};
 use records::NodeRecord;
+use records::Sizes;
 use stripe::Nodes;
 
 pub fn fresh() -> Nodes
     ensures { λ r. ⌜ ((n : ℕ) → n ≤ 18 → nodesOf n r ≡ replicate n freshNode) ⌝ }
 {
     let node = NodeRecord::fresh();
-    let items = [node; 18];
+    let items = [node; Sizes::NODES];
     Nodes { items }
 }
 

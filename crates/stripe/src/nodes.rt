@@ -23,7 +23,7 @@ use records::Sizes;
 
 // Node j is item j - 1; a stripe of n nodes has the first n items.
 pub struct Nodes {
-    pub items: [NodeRecord; 18],
+    pub items: [NodeRecord; Sizes::NODES],
 }
 
 // What is asked of a node.

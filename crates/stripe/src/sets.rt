@@ -28,13 +28,13 @@ use records::Sizes;
 
 // Recent ids of a node, without those that are old at a NORM node: the first count items.
 pub struct RecentIds {
-    pub items: [WriteId; 16],
+    pub items: [WriteId; Entries::LIMIT],
     pub count: usize,
 }
 
 // The recent ids of every node: those of node j are item j - 1.
 pub struct Recents {
-    pub items: [RecentIds; 18],
+    pub items: [RecentIds; Sizes::NODES],
 }
 
 impl RecentIds {
@@ -46,7 +46,7 @@ impl RecentIds {
             position: 0,
             number: WriteNumber(0),
         };
-        let items = [id; 16];
+        let items = [id; Entries::LIMIT];
         RecentIds {
             items: items,
             count: 0,
@@ -180,7 +180,7 @@ impl Nodes {
         ensures { λ r. ⌜ Knows n self r ⌝ }
     {
         let none = RecentIds::none();
-        let mut items = [none; 18];
+        let mut items = [none; Sizes::NODES];
         let mut i = 0;
         while i < n {
             let node = self.items[i];

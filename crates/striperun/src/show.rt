@@ -18,6 +18,7 @@ use records::ClientRecord;
 use records::Finding;
 use records::Phase;
 use records::Refusal;
+use records::Returned;
 use records::Sizes;
 use script::reader::Line;
 use step::Played;
@@ -42,12 +43,13 @@ fn put_block_read(out: &mut [u8], at: usize, shown: &[u8]) -> usize {
 
 // What is returned with a refusal.
 fn put_refusal(out: &mut [u8], at: usize, why: Refusal) -> usize {
-    match why {
-        Refusal::WrongMode(opmode, lmode) => put_modes(out, at, opmode, lmode),
-        Refusal::OldEpoch(epoch) => put_number(out, at, epoch.0 as u64),
-        Refusal::BeforePrevious(id) => put_id(out, at, id),
-        Refusal::TooFew(size) => put_number(out, at, size as u64),
-        _ => put(out, at, b'-'),
+    let returned = why.returned();
+    match returned {
+        Returned::Nothing => put(out, at, b'-'),
+        Returned::Modes(opmode, lmode) => put_modes(out, at, opmode, lmode),
+        Returned::NodeEpoch(epoch) => put_number(out, at, epoch.0 as u64),
+        Returned::PreviousId(id) => put_id(out, at, id),
+        Returned::SetSize(size) => put_number(out, at, size as u64),
     }
 }
 

@@ -1,5 +1,4 @@
 -- The last lock, or one of more. Assumes nothing.
-use mathlib.Core.Path.{_∙_}
 use native.Mathlib.Omega.{arith}
 use borrow.Author.Tests.{le-leb, lt-leb}
 use Rattle.records.proofs.Clients.{lmodes-more, locked-last, locked-more}

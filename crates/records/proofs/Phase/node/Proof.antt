@@ -1,5 +1,4 @@
 -- By cases of the phase; a list of lmodes is as long as its count says. Assumes nothing.
-use native.Mathlib.Omega.{arith}
 use Rattle.records.proofs.Clients.{lmodes-count}
 use borrow.Author.Needs.{needs}
 use Rattle.records.proofs.Phase.node.Statement.{statement}
