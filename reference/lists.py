@@ -17,7 +17,7 @@ import random
 import sys
 from collections import Counter
 
-from script import FORMS, answer_of, read_call
+from script import FORMS, SHELF_FORMS, answer_of, read_call
 from shelfrun import SIZES as SHELF_SIZES
 from stripe import EXP, LOCKING, NORM, PICKING, SETTLING, UNLOCKING, WRITING, Sizes
 from striperun import new_stripe
@@ -47,9 +47,10 @@ def is_idle(client):
 
 
 class Author:
-    def __init__(self, stripe, rng, damaged, arbitrary):
-        """Damaged, arbitrary: the shares of damaged lines and of arbitrary calls."""
+    def __init__(self, stripe, rng, damaged, arbitrary, forms=FORMS):
+        """Damaged, arbitrary: the shares of damaged lines and of arbitrary calls. Forms: the program's."""
         self.stripe = stripe
+        self.forms = forms
         self.rng = rng
         self.damaged = damaged
         self.arbitrary = arbitrary
@@ -65,7 +66,7 @@ class Author:
     def play(self, line):
         """Makes the call of the line. A damaged line may hold an LF."""
         for part in line.split(b"\n"):
-            answer = answer_of(self.stripe, read_call(part))
+            answer = answer_of(self.stripe, read_call(part, self.forms))
             self.answers[answer.number] += 1
 
     def lines(self, count):
@@ -83,6 +84,8 @@ class Author:
         return self.next_call()
 
     def next_call(self):
+        if self.chance(0.02):
+            return text("due", self.odd_number(self.stripe.sizes.n))
         if self.plan and self.chance(0.98):
             return self.plan.pop(0)
         if self.chance(self.arbitrary):
@@ -125,7 +128,7 @@ class Author:
         """Any call, some arguments out of range, some values of wrong length."""
         sizes = self.stripe.sizes
         name = self.rng.choice(list(LETTERS))
-        if name == "read":
+        if name in ("read", "due"):
             return text(name, self.odd_number(sizes.n))
         if name == "fail":
             return text(name, self.odd_number(sizes.n), self.odd_value())
@@ -573,7 +576,7 @@ def stripe_author(rng, sizes):
 
 
 def shelf_author(rng):
-    return Author(new_stripe(SHELF_SIZES), rng, damaged=0.1, arbitrary=0.05)
+    return Author(new_stripe(SHELF_SIZES), rng, damaged=0.1, arbitrary=0.05, forms=SHELF_FORMS)
 
 
 def stripe_script(seed, calls, sizes=None):

@@ -11,7 +11,7 @@ from typing import NamedTuple
 from answers import Answer
 
 # letter: name of the call, how many numbers follow, whether a value follows
-FORMS = {
+SHELF_FORMS = {
     b"S": ("swap", 2, True),
     b"A": ("add", 2, False),
     b"H": ("check", 2, False),
@@ -28,6 +28,10 @@ FORMS = {
     b"Q": ("quit", 1, False),
     b"C": ("stop", 1, False),
     b"N": ("fail", 1, True),
+}
+# with the letters that only striperun knows
+FORMS = SHELF_FORMS | {
+    b"Z": ("due", 1, False),
 }
 
 DIGITS = re.compile(rb"[0-9]+")
@@ -57,12 +61,12 @@ def numbers(fields):
     return tuple(number(field) for field in fields)
 
 
-def read_call(line):
+def read_call(line, forms=FORMS):
     """The call that a line without its LF stands for, or None if unreadable."""
     letter, *fields = line.split(b" ")
-    if letter not in FORMS:
+    if letter not in forms:
         return None
-    name, count, has_value = FORMS[letter]
+    name, count, has_value = forms[letter]
     if len(fields) != count + has_value:
         return None
     arguments = numbers(fields[:count])

@@ -160,6 +160,10 @@ def test_due():
     node.mark_old([WriteId(1, 1, 0)])
     equal(node.is_due(), False)
     equal(Node(opmode=INIT).is_due(), True)
+    equal(played((2, 4, 1, 1, 2), "N 4 00, Z 4")[1], Answer(0, "due"))
+    equal(played((2, 4, 1, 1, 2), "S 1 1 01, Z 1")[1], Answer(0, "no"))
+    equal(played((2, 4, 1, 1, 2), "Z 5")[1], Answer(2))
+    equal(played((2, 4, 1, 1, 2), "Z 0")[1], Answer(2))
 
 
 def test_ages():
@@ -218,7 +222,7 @@ def test_sizes_refused():
 UNREADABLE = [
     *[b"", b" ", b"R", b"R ", b" R 1", b"R 1 ", b"R  1", b"R\t1", b"R,1", b"R1", b"R 1 1", b"RR 1"],
     *[b"R 1\r", b"R 1\0", b"\0R 1", b"R 1\x7f", b"\xef\xbb\xbfR 1", b"R \xd9\xa1"],
-    *[b"r 1", b"X 1", b"1 R", b"R +1", b"R -1", b"R 0x1", b"R 1.0", b"R 1_0", b"R one"],
+    *[b"r 1", b"X 1", b"1 R", b"R +1", b"R -1", b"R 0x1", b"R 1.0", b"R 1_0", b"R one", b"Z 1", b"Z 4"],
     *[b"S 1 1", b"S 1 01", b"S 1 1 1", b"S 1 1 001", b"S 1 1 0101", b"S 1 1 0a", b"S 1 1 0G"],
     *[b"S 1 1 01 ", b"S 1 1  01", b"S 1 1 -1", b"N 1", b"N 1 1", b"A 1", b"A 1 3 3", b"L", b"L 1 1"],
 ]

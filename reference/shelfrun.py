@@ -2,7 +2,7 @@
 
 import sys
 
-from script import answer_of, lines_of, read_call
+from script import SHELF_FORMS, answer_of, lines_of, read_call
 from stripe import Sizes, Stripe
 
 SIZES = Sizes(k=2, n=4, B=1, td=1, m=2)
@@ -29,7 +29,7 @@ def run(lines):
     """The output lines for the lines of the input."""
     stripe = Stripe(SIZES, bytes(SIZES.n * SIZES.B), bytes(SIZES.m * SIZES.B))
     for line_number, line in enumerate(lines, start=1):
-        call = read_call(line)
+        call = read_call(line, SHELF_FORMS)
         answer = answer_of(stripe, call)
         yield f"{line_number} {event_of(call, answer)} {answer.number} {byte_read(call, answer)}"
 

@@ -348,6 +348,14 @@ class Stripe:
         self.nodes[j] = Node(opmode=INIT)
         return ACCEPTED
 
+    # --------------------------------------------------------------- ages
+
+    def due(self, j):
+        """Whether node j is due; nothing changes."""
+        if not self.is_node(j):
+            return Answer(2)
+        return Answer(0, "due" if self.nodes[j].is_due() else "no")
+
     # ------------------------------------------------------------ rebuild
 
     def lock(self, c):

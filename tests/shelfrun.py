@@ -19,7 +19,7 @@ from collections import Counter
 
 from against import compared, in_order
 from lists import shelf_author
-from script import read_call
+from script import SHELF_FORMS, read_call
 from shelfrun import run
 
 PROGRAM, SEED = sys.argv[1], int(sys.argv[2])
@@ -118,6 +118,7 @@ ODD_LINES = [
     b"L 256",
     b"L 257",
     b"Z 1",
+    b"Z 9",
 ]
 ODD_INPUTS = [
     b"",
@@ -146,7 +147,7 @@ def counts(input):
     for line, output in zip(input.split(b"\n"), compared(COMMAND, run, input)):
         _, event, number, _ = output.split(b" ")
         seen["lines"] += 1
-        seen["unreadable"] += read_call(line) is None
+        seen["unreadable"] += read_call(line, SHELF_FORMS) is None
         seen[event.decode()] += 1
         seen[int(number)] += 1
     return seen

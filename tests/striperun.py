@@ -27,7 +27,7 @@ LENGTHS = [1, 3, 64]
 CALLS = 4000
 DAMAGED_CALLS = 500
 
-SCRIPT = b"S 1 1 0102\nA 1 3\nL 2\nR 1\nQ 2\nbogus"
+SCRIPT = b"S 1 1 0102\nA 1 3\nL 2\nR 1\nZ 1\nQ 2\nbogus"
 
 # First lines: readable and within the limits, then not.
 GOOD_SIZES = [
@@ -103,6 +103,22 @@ def random_script(seed, sizes):
     return script_of(sizes, stripe_author(random.Random(seed), sizes).lines(CALLS))
 
 
+def ageing_script():
+    """Client 1's write stays recent at nodes 1, 3 and 4, and ages there as client 2 writes; 63 later writes, then the 64th node by node.
+
+    Client 2 sweeps after every seventh write; at last client 1 sweeps, and its write is recent no more.
+    """
+    write = [b"S 2 1 22", b"A 2 3", b"A 2 4"]
+    ask = [b"Z %d" % j for j in range(6)]
+    lines = [b"S 1 1 11", b"A 1 3", b"A 1 4"] + ask
+    for _ in range(9):
+        lines += write * 7 + [b"G 2"] * 8
+    lines += ask
+    for line in write:
+        lines += [line] + ask
+    return script_of(Sizes(2, 4, 1, 1, 2), lines + [b"G 1"] * 8 + ask + [b"N 2 00"] + ask)
+
+
 def damaged_script(seed, sizes):
     author = Author(new_stripe(sizes), random.Random(seed), damaged=0.5, arbitrary=0.3)
     return script_of(sizes, author.lines(DAMAGED_CALLS))
@@ -137,6 +153,9 @@ def main():
     for input in ODD_INPUTS:
         whole += counts(input)
     show("odd inputs", whole)
+    seen = counts(ageing_script())
+    show("a write that ages", seen)
+    whole += seen
     with multiprocessing.Pool() as pool:
         for name, make in [("damaged lists", damaged_script), ("lists", random_script)]:
             jobs = [(make, SEED * 1000 + at, sizes) for at, sizes in enumerate(random_lists())]

@@ -60,6 +60,7 @@ impl StepCall {
         match self {
             StepCall::Swap(c, _) => c,
             StepCall::Fail(_) => 0,
+            StepCall::Due(_) => 0,
             StepCall::At(_, c, _) => c,
             StepCall::By(_, c) => c,
         }
@@ -72,6 +73,7 @@ impl StepCall {
         match self {
             StepCall::Swap(_, i) => i as usize,
             StepCall::Fail(j) => j as usize,
+            StepCall::Due(j) => j as usize,
             StepCall::At(_, _, j) => j as usize,
             StepCall::By(op, _) => target_by(op, z, client),
         }
@@ -84,6 +86,7 @@ impl StepCall {
         match self {
             StepCall::Swap(_, _) => false,
             StepCall::Fail(_) => false,
+            StepCall::Due(_) => false,
             StepCall::At(_, _, _) => false,
             StepCall::By(op, _) => looks_by(op),
         }

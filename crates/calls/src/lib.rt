@@ -21,6 +21,7 @@ pub enum Call {
 pub enum StepCall {
     Swap(u8, u8),
     Fail(u8),
+    Due(u8),
     At(NodeCall, u8, u8),
     By(ClientCall, u8),
 }

@@ -73,6 +73,10 @@ module _ (z : Sizes) (h : Ledger Block) where
     at-guard j c true why rest k = at-refused j c why
     at-guard j c false why rest k = k refl
 
+    -- an accepted call that leaves all as it was, and of which the ledger is told nothing
+    pub at-same : (j c : ℕ) (a : Answer) → ((b : ℕ → Block) → note (ops z) h (entry z x a) b ≡ h) → KeptAt j c (answered a (atNode j c s))
+    at-same j c a quiet = subst (λ t. Kept z h x (answered a t)) (sym (put-back j c s)) (record { good = rw (quiet (columns z s .block)) g; fits = f })
+
     -- calls by client c on the whole stripe
     abbrev pub KeptWhole : ℕ → Outcome Whole → Type 0
     KeptWhole c o = Kept z h x (answered (o .answer) (putWhole c (o .after) s))

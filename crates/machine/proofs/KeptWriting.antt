@@ -35,7 +35,7 @@ use Rattle.machine.proofs.Frame.{norm-live}
 use Rattle.machine.proofs.Bytes.{Block, view, blockOf, ops}
 use Rattle.machine.proofs.View.{columns, withClient, withNodes, withClients, set-same, put-node, put-client, put-back, upd-keep, setAt-length, unl-is, l0-is}
 use Rattle.machine.proofs.Tables.{put-block, length-put, bytes-put, bytes-block, length-block, bytes-difference, length-difference, view-difference, bytes-add, length-add, view-add, block-view}
-use Rattle.machine.proofs.Kept.{Fits, Kept, entry, KeptAt, at-refused, at-guard}
+use Rattle.machine.proofs.Kept.{Fits, Kept, entry, KeptAt, at-refused, at-guard, at-same}
 use Rattle.machine.proofs.Sets.{each-at}
 use Rattle.machine.proofs.Writing.Add.{previousListed, MayAdd, addedTo, add-more-good, add-done-good}
 use Rattle.machine.proofs.Writing.Check.{drop-good, check-init-good, check-gc-good}
@@ -95,7 +95,7 @@ module _ (z : Sizes) (L : Laws (ops z)) (h : Ledger Block) (s : Stripe) (g : Goo
 
   -- an accepted call that leaves all as it was
   kept-same : (x : Call) (j c : ℕ) (a : Answer) → Quiet x a → After x j c (answered a (atNode j c s))
-  kept-same x j c a quiet = subst (λ t. Kept z h x (answered a t)) (sym (put-back j c s)) (record { good = rw (quiet (C .block)) g; fits = f })
+  kept-same = at-same z h s g f
 
   pub read-kept : (i : ℕ) → Kept z h (Calls.read i) (step z (Calls.read i) s)
   unfolding step Writing.read

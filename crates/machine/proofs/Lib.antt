@@ -30,6 +30,7 @@ pub mod KeptStart
 pub mod KeptWriting
 pub mod KeptRebuild
 pub mod KeptFailure
+pub mod KeptAging
 pub mod Refusals
 pub mod Outside
 -- lists of calls

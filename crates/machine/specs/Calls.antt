@@ -14,6 +14,7 @@ use Rattle.machine.specs.Stripe.{Stripe, Refused, Outcome, Local, client
 use Rattle.machine.specs.Writing as Writing
 use Rattle.machine.specs.Rebuild as Rebuild
 use Rattle.machine.specs.Failure as Failure
+use Rattle.machine.specs.Aging as Aging
 
 -- c is a client, i a position, j a node, value the B bytes of a swap or a failure: any numbers and any bytes. NodeCall and ClientCall are the code's
 -- own (crates/records/src/lib.rt)
@@ -22,12 +23,13 @@ pub data Call : Type 0 where
   Pick : ℕ → Call
   Swap : ℕ → ℕ → List ℕ → Call
   Fail : ℕ → List ℕ → Call
+  Due : ℕ → Call
   -- a client's add or check at a node
   At : NodeCall → ℕ → ℕ → Call
   -- a client's other calls
   By : ClientCall → ℕ → Call
 
--- the sixteen by their names
+-- the calls by their names
 abbrev pub read : ℕ → Call
 read i = Read i
 
@@ -76,6 +78,9 @@ stop c = By Stop c
 abbrev pub fail : ℕ → List ℕ → Call
 fail j value = Fail j value
 
+abbrev pub due : ℕ → Call
+due j = Due j
+
 -- a call is handed the sizes, and of the stripe what it touches: node j's record and client c's, or all node records and client c's
 abbrev pub stepAt : NodeCall → Sizes → ℕ → ℕ → Local → Outcome Local
 stepAt Add z c j l = Writing.add z c j l
@@ -98,6 +103,7 @@ step z (Read i) s = onNode i 0 (Writing.read z i) s
 step z (Pick c) s = onWhole c (Rebuild.pick z c) s
 step z (Swap c i value) s = onNode i c (Writing.swap z c i value) s
 step z (Fail j value) s = onNode j 0 (Failure.fail z j value) s
+step z (Due j) s = onNode j 0 (Aging.due z j) s
 step z (At op c j) s = onNode j c (stepAt op z c j) s
 step z (By op c) s = stepBy op z c s
 

@@ -14,7 +14,7 @@ use Rattle.records.specs.declared.NodeCall.the-variants.{Add, Check}
 use Rattle.records.specs.declared.ClientCall.{ClientCall}
 use Rattle.records.specs.declared.ClientCall.the-variants.{Drop, Sweep, Stop, Lock, Weaken, Tighten, Write, Settle, Unlock, Quit}
 use Rattle.machine.specs.Stripe.{Answer, Accepted, Shown, Added, Done, Rebuilt, Told, Refused, number}
-use Rattle.machine.specs.Calls.{Call, Read, Pick, Swap, Fail, At, By}
+use Rattle.machine.specs.Calls.{Call, Read, Pick, Swap, Fail, Due, At, By}
 
 -- a call that was made, its answer, and the blocks as it left them
 pub record Event : Type 0 where
@@ -53,6 +53,7 @@ kind (Read i) = Other
 kind (Pick c) = PickBy c
 kind (Swap c i value) = SwapInto c i value
 kind (Fail j value) = Failure
+kind (Due j) = Other
 kind (At op c j) = kindAt op c
 kind (By op c) = cond (isSettle op) (SettleBy c) Other
 

@@ -2,6 +2,7 @@ pub mod Stripe
 pub mod Writing
 pub mod Rebuild
 pub mod Failure
+pub mod Aging
 pub mod Consistent
 pub mod Calls
 pub mod History

@@ -154,9 +154,10 @@ pub struct CheckStep {
     pub node: NodeRecord,
 }
 
-// What a call that asks is told.
+// What a call that asks is told: by a check; whether a node is due.
 pub enum Finding {
     Check(CheckAnswer),
+    Due(bool),
 }
 
 impl Refusal {

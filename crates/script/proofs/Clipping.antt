@@ -2,6 +2,7 @@
 use mathlib.Core.Path.{_≡_, refl, sym, ap, _∙_}
 use mathlib.Core.Bool.{Bool, true, false, cond, _&&_, _||_, not}
 use mathlib.Core.List.{List, [], _∷_}
+use mathlib.Core.Option.{Option, none, some}
 use Prim.Native.Nat.{ℕ, zero, suc, _≤_, _<_, min}
 use native.Mathlib.Decide.{decLe}
 use native.Mathlib.Omega.{arith}
@@ -15,18 +16,19 @@ use Rattle.records.specs.Client.{Client, freshClient, clientWithin}
 use Rattle.records.specs.Sizes.{sizesWithin, isNode, isPosition, isRedundant, isClient}
 use Rattle.machine.specs.Stripe.{Stripe, Answer, Outcome, refused, guard, Local, Whole, nodeAt, clientAt, atNode, onNode, whole, onWhole, blocksFit, nodesFit}
 use Rattle.basics.specs.Lists.{elementAt}
-use Rattle.machine.specs.Calls.{Call, Read, Pick, Swap, Fail, At, By, step}
+use Rattle.machine.specs.Calls.{Call, Read, Pick, Swap, Fail, Due, At, By, step}
 use Rattle.records.specs.declared.NodeCall.{NodeCall}
 use Rattle.records.specs.declared.NodeCall.the-variants.{Add, Check}
 use Rattle.records.specs.declared.ClientCall.{ClientCall}
 use Rattle.records.specs.declared.ClientCall.the-variants.{Drop, Sweep, Stop, Lock, Weaken, Tighten, Write, Settle, Unlock, Quit}
 use Rattle.machine.specs.Writing as Writing
 use Rattle.machine.specs.Failure as Failure
+use Rattle.machine.specs.Aging as Aging
 use Rattle.machine.specs.Rebuild as Rebuild
 use Rattle.basics.proofs.Lists.{element-past}
 use Rattle.machine.proofs.View.{refused-at, refused-on}
-use Rattle.script.specs.Lines.{eventOf}
-use Rattle.script.specs.Reading.{clipNumber, clipValue, clip}
+use Rattle.script.specs.Lines.{shelfLine, eventOf}
+use Rattle.script.specs.Reading.{clipNumber, clipValue, clip, clipped}
 
 clip-below : (x : ℕ) → x ≤ 255 → clipNumber x ≡ x
 clip-below x h = omega arith
@@ -74,12 +76,23 @@ pub record Small (z : Sizes) (s : Stripe) : Type 0 where
   pub node-records : length (s .nodes) < 255
   pub client-records : length (s .clients) < 255
 
--- an event does not go by what is clipped
+-- which call it is and its event do not go by what is clipped
+pub clip-shelf : (room : ℕ) (x : Option Call) → shelfLine (clipped room x) ≡ clipped room (shelfLine x)
+clip-shelf room none = refl
+clip-shelf room (some (Read i)) = refl
+clip-shelf room (some (Pick c)) = refl
+clip-shelf room (some (Swap c i value)) = refl
+clip-shelf room (some (Fail j value)) = refl
+clip-shelf room (some (Due j)) = refl
+clip-shelf room (some (At op c j)) = refl
+clip-shelf room (some (By op c)) = refl
+
 pub clip-event : (room : ℕ) (x : Call) (a : Answer) → eventOf (clip room x) a ≡ eventOf x a
 clip-event room (Read i) a = refl
 clip-event room (Pick c) a = refl
 clip-event room (Swap c i value) a = refl
 clip-event room (Fail j value) a = refl
+clip-event room (Due j) a = refl
 clip-event room (At op c j) a = refl
 clip-event room (By op c) a = refl
 
@@ -242,7 +255,7 @@ module _ (z : Sizes) (s : Stripe) where
     tables w = Rebuild.outOfLimits z w || not (blocksFit z (w .blocks) && blocksFit z (w .spare))
 
     pub clip-call : (room : ℕ) → z .b ≤ room → (x : Call) → step z (clip room x) s ≡ step z x s
-    unfolding step Writing.read Writing.swap Writing.add Writing.check Writing.drop Writing.sweep Failure.fail Failure.stop Rebuild.lock Rebuild.pick Rebuild.weaken Rebuild.tighten Rebuild.write Rebuild.settle Rebuild.unlock Rebuild.quit
+    unfolding step Writing.read Writing.swap Writing.add Writing.check Writing.drop Writing.sweep Failure.fail Failure.stop Aging.due Rebuild.lock Rebuild.pick Rebuild.weaken Rebuild.tighten Rebuild.write Rebuild.settle Rebuild.unlock Rebuild.quit
     clip-call room fits (Read i) = at-node (Writing.read z) (λ l. not (sizesWithin z && (nodeWithin z (l .node) && blocksFit z (l .blocks)))) (isPosition z) (λ i l e. first-tests _ _ l _ e) no-position i
     clip-call room fits (Swap c i v) =
         value-clip (λ v. step z (Swap (clipNumber c) (clipNumber i) v) s) room fits
@@ -256,6 +269,7 @@ module _ (z : Sizes) (s : Stripe) where
     clip-call room fits (Fail j v) =
         value-clip (λ v. step z (Fail (clipNumber j) v) s) room fits (λ v e. denied-at (clipNumber j) 0 (Failure.fail z (clipNumber j) v) true (fail-long (clipNumber j) v (atNode (clipNumber j) 0 s) e)) v
         ∙ at-node (λ j. Failure.fail z j v) (λ l. not (sizesWithin z && (blocksFit z (l .blocks) && eqb (length v) (z .b)))) (isNode z) (λ j l e. first-tests _ _ l _ e) no-node j
+    clip-call room fits (Due j) = at-node (Aging.due z) (λ l. not (sizesWithin z && nodeWithin z (l .node))) (isNode z) (λ j l e. first-tests _ _ l _ e) no-node j
     clip-call room fits (By Lock c) = on-clip (Rebuild.lock z) (Rebuild.outOfLimits z) (λ c w e. first-tests _ _ w _ e) c
     clip-call room fits (Pick c) = on-clip (Rebuild.pick z) tables (λ c w e. first-tests _ _ w _ e) c
     clip-call room fits (By Weaken c) = on-clip (Rebuild.weaken z) (Rebuild.outOfLimits z) (λ c w e. first-tests _ _ w _ e) c

@@ -1,5 +1,5 @@
--- Document 01, "Due test and runner": the lines of the programs, as lists of bytes in ASCII: what a line of input means, and what a line of output
--- says. Assumes nothing.
+-- Document 01, "Due test and runner": the lines of the programs, as lists of bytes in ASCII: what a line of input means, to striperun and to
+-- shelfrun, and what a line of output says. Assumes nothing.
 use mathlib.Core.Bool.{Bool, true, false, cond, _&&_, _||_}
 use mathlib.Core.List.{List, [], _∷_, _++_}
 use mathlib.Core.Option.{Option, none, some}
@@ -8,7 +8,7 @@ use lib.Dec.{eqb, leb, ltb}
 use Rattle.machine.specs.Stripe as Stripe
 use Rattle.machine.specs.Stripe.{Answer, Accepted, Added, Done, Rebuilt, Told, Refused, number}
 use Rattle.machine.specs.Calls as Calls
-use Rattle.machine.specs.Calls.{Call, Read, Pick, Swap, Fail, At, By}
+use Rattle.machine.specs.Calls.{Call, Read, Pick, Swap, Fail, Due, At, By}
 use Rattle.records.specs.declared.NodeCall.{NodeCall}
 use Rattle.records.specs.declared.NodeCall.the-variants.{Add, Check}
 use Rattle.records.specs.declared.ClientCall.{ClientCall}
@@ -62,7 +62,7 @@ bytesOf (x ∷ y ∷ l) = both (hexDigit x) (hexDigit y) (bytesOf l)
 abbrev pub when : Bool → Call → Option Call → Option Call
 when test x rest = cond test (some x) rest
 
--- "D c; G c (sweep); R i; L, P, O (weaken), I (tighten), W, T (settle), U, Q each with c; C c (stops)"
+-- "D c; G c (sweep); R i; L, P, O (weaken), I (tighten), W, T (settle), U, Q each with c; C c (stops)"; and Z j, the due test
 abbrev pub withOne : ℕ → Option ℕ → Option Call
 withOne letter none = none
 withOne letter (some c) =
@@ -77,7 +77,8 @@ withOne letter (some c) =
     (when (eqb letter 84) (Calls.settle c)
     (when (eqb letter 85) (Calls.unlock c)
     (when (eqb letter 81) (Calls.quit c)
-    (when (eqb letter 67) (Calls.stop c) none)))))))))))
+    (when (eqb letter 67) (Calls.stop c)
+    (when (eqb letter 90) (Calls.due c) none))))))))))))
 
 -- "A c j; H c j (check)"
 abbrev pub withTwo : ℕ → Option ℕ → Option ℕ → Option Call
@@ -105,7 +106,7 @@ callOf letter (a ∷ b ∷ []) = cond (eqb letter 78) (withValue (numeral a) (by
 callOf letter (a ∷ b ∷ v ∷ []) = cond (eqb letter 83) (withThree (numeral a) (numeral b) (bytesOf v)) none
 callOf letter (a ∷ b ∷ v ∷ w ∷ more) = none
 
--- the call that a line stands for; none if it is unreadable. A value may have any number of bytes: the call itself refuses a wrong one with 1
+-- the call that a line of striperun stands for; none if it is unreadable. A value may have any number of bytes: the call itself refuses a wrong one with 1
 unfoldable pub lineOf : List (List ℕ) → Option Call
 lineOf [] = none
 lineOf ([] ∷ more) = none
@@ -114,6 +115,24 @@ lineOf ((letter ∷ x ∷ xs) ∷ more) = none
 
 abbrev pub call : List ℕ → Option Call
 call line = lineOf (fields line)
+
+-- shelfrun has the sixteen letters that are quoted above: a line that only striperun knows is unreadable there
+abbrev pub isShelfLine : Call → Bool
+isShelfLine (Read i) = true
+isShelfLine (Pick c) = true
+isShelfLine (Swap c i value) = true
+isShelfLine (Fail j value) = true
+isShelfLine (Due j) = false
+isShelfLine (At op c j) = true
+isShelfLine (By op c) = true
+
+abbrev pub shelfLine : Option Call → Option Call
+shelfLine none = none
+shelfLine (some x) = cond (isShelfLine x) (some x) none
+
+-- the call that a line of shelfrun stands for
+abbrev pub shelfCall : List ℕ → Option Call
+shelfCall line = shelfLine (call line)
 
 ---- output
 
@@ -151,6 +170,7 @@ eventOf (Read i) a = Events.None
 eventOf (Pick c) a = Events.None
 eventOf (Swap c i value) a = ifAccepted a Events.Swapped
 eventOf (Fail j value) a = Events.None
+eventOf (Due j) a = Events.None
 eventOf (At op c j) a = eventAt op a
 eventOf (By op c) a = eventBy op a
 

@@ -5,7 +5,8 @@ ghost use mathlib.Core.Path.{_≡_};
 ghost use mathlib.Core.Bool.{true};
 ghost use Prim.Native.Nat.{ℕ, _+_, _-_, _*_};
 ghost use Rattle.machine.specs.Calls.{At, By};
-ghost use Rattle.script.specs.Lines.{isDigit, withOne, withTwo};
+ghost use Rattle.calls.specs.Calls.{callOf};
+ghost use Rattle.script.specs.Lines.{isDigit, isShelfLine, shelfLine, withOne, withTwo};
 ghost use Rattle.script.specs.Reading.{Holds, Takes, Follows, Ends, callIn, kept, withTarget, Stored, HexByte, HexDigit, clipNumber, numberFrom};
 use calls::Call;
 use calls::StepCall;
@@ -48,6 +49,41 @@ pub enum LineReader {
     First(u8, Number),
     Second(u8, u8, Number),
     Value(Target, Hex, usize),
+}
+
+impl Line {
+    // The line as shelfrun has it, where a call that only striperun knows is unreadable.
+    pub fn in_shelfrun(self) -> Line
+        ensures { λ r. ⌜ ((value : List ℕ) → callIn r value ≡ shelfLine (callIn self value)) ⌝ }
+    {
+        match self {
+            Line::Unreadable => Line::Unreadable,
+            Line::Play(call, count) => {
+                if is_shelf_line(call) {
+                    Line::Play(call, count)
+                } else {
+                    Line::Unreadable
+                }
+            }
+        }
+    }
+}
+
+// Whether shelfrun has a line for the call.
+fn is_shelf_line(call: Call) -> bool
+    ensures { λ r. ⌜ ((value : List ℕ) → r ≡ isShelfLine (callOf call value)) ⌝ }
+{
+    match call {
+        Call::Read(_) => true,
+        Call::Pick(_) => true,
+        Call::Step(step) => match step {
+            StepCall::Swap(_, _) => true,
+            StepCall::Fail(_) => true,
+            StepCall::Due(_) => false,
+            StepCall::At(_, _, _) => true,
+            StepCall::By(_, _) => true,
+        },
+    }
 }
 
 impl LineReader {
@@ -140,6 +176,7 @@ fn with_one(letter: u8, c: u8) -> Line
         b'U' => by(ClientCall::Unlock, c),
         b'Q' => by(ClientCall::Quit, c),
         b'C' => by(ClientCall::Stop, c),
+        b'Z' => Line::Play(Call::Step(StepCall::Due(c)), 0),
         _ => Line::Unreadable,
     }
 }

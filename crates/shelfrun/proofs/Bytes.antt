@@ -12,13 +12,13 @@ use borrow.Author.Tests.{ne-eqb}
 use Rattle.basics.proofs.Lists.{length-listOf}
 use Rattle.machine.specs.Stripe.{Stripe, Answer, number}
 use Rattle.machine.specs.Calls.{Call}
-use Rattle.script.specs.Lines.{call, printed, shown}
+use Rattle.script.specs.Lines.{call, shelfLine, shelfCall, printed, shown}
 use Rattle.script.specs.Reading.{clipped, callIn, Holds, Takes, Ends}
 use Rattle.script.specs.Writing.{Put}
 use Rattle.script.specs.declared.reader.Line.{Line}
 use Rattle.script.specs.declared.reader.LineReader.{LineReader}
 use Rattle.script.specs.declared.writer.Event.{Event}
-use Rattle.script.proofs.Clipping.{Small, clip-call, clip-event}
+use Rattle.script.proofs.Clipping.{Small, clip-call, clip-shelf, clip-event}
 use Rattle.step.specs.declared.Stripe as Player
 use Rattle.step.specs.View.{stripeOf}
 use Rattle.shelfrun.specs.Shelfrun.{State, start, sizes, outcome, output, isBegun, lineOutput, byteOutput, byteLeft, outputOf, left, lastOutput, shelfrun}
@@ -100,19 +100,21 @@ small stripe blocks spare differences = record {
   client-records = rw (length-listOf 2) (omega arith);
 }
 
--- the line that a reader tells is the line that was read
-pub line-answered : {x : State} {lines value end : ℕ} {reader : LineReader} {line : Line} {s s′ : Stripe} {before after : List ℕ}
-    → Small sizes s → Ends reader line → Answers (lines + 1) (callIn line (value ∷ [])) s before after end s′ → Is x lines reader (value ∷ []) s
-    → Answers (suc (x .lines)) (call (x .line)) (x .stripe) before after end s′
-line-answered {x = x} {lines = lines} {value = value} {end = end} {line = line} {s = s} {s′ = s′} {before = before} {after = after} small e a k =
-    subst (λ (z : Stripe). Answers (suc (x .lines)) (call (x .line)) z before after end s′) (k .stripe)
-    (clip-answers (suc (x .lines)) (call (x .line)) s small
-    (subst (λ (c : Option Call). Answers (suc (x .lines)) c s before after end s′) (e .tells (x .line) (value ∷ []) (k .line))
-    (subst (λ (n : ℕ). Answers n (callIn line (value ∷ [])) s before after end s′) (add-one lines ∙ ap suc (k .count)) a)))
+-- the line that a reader tells is the line that was read, as shelfrun has it
+pub line-answered : {x : State} {lines value end : ℕ} {reader : LineReader} {line : Line} {told : Option Call} {s s′ : Stripe} {before after : List ℕ}
+    → Small sizes s → Ends reader line → told ≡ shelfLine (callIn line (value ∷ []))
+    → Answers (lines + 1) told s before after end s′ → Is x lines reader (value ∷ []) s
+    → Answers (suc (x .lines)) (shelfCall (x .line)) (x .stripe) before after end s′
+line-answered {x = x} {lines = lines} {value = value} {end = end} {told = told} {s = s} {s′ = s′} {before = before} {after = after} few e is a k =
+    subst (λ (z : Stripe). Answers (suc (x .lines)) (shelfCall (x .line)) z before after end s′) (k .stripe)
+    (clip-answers (suc (x .lines)) (shelfCall (x .line)) s few
+    (subst (λ (c : Option Call). Answers (suc (x .lines)) c s before after end s′)
+    (is ∙ ap shelfLine (e .tells (x .line) (value ∷ []) (k .line)) ∙ clip-shelf 1 (call (x .line)))
+    (subst (λ (n : ℕ). Answers n told s before after end s′) (add-one lines ∙ ap suc (k .count)) a)))
 
 pub at-end : {lines byte end : ℕ} {begun : Bool} {reader next : LineReader} {value before after : List ℕ} {s s′ : Stripe} → byte ≡ 10 → length value ≡ 1
     → ((value : List ℕ) → Holds [] next value)
-    → ((x : State) → Is x lines reader (getD value 0 0 ∷ []) s → Answers (suc (x .lines)) (call (x .line)) (x .stripe) before after end s′)
+    → ((x : State) → Is x lines reader (getD value 0 0 ∷ []) s → Answers (suc (x .lines)) (shelfCall (x .line)) (x .stripe) before after end s′)
     → Feeds (Kept lines begun reader value s) (byte ∷ []) (take end after) (Kept (lines + 1) false next value s′)
 unfolding outputOf left
 at-end {lines = lines} {reader = reader} {value = value} {s = s} lf one new a =

@@ -9,7 +9,7 @@ use Rattle.records.specs.declared.Sizes.{Sizes}
 use Rattle.records.specs.declared.Refusal.the-variants.{OutOfLimits}
 use Rattle.machine.specs.Stripe.{Stripe, Outcome, Answer, fresh, number, refused}
 use Rattle.machine.specs.Calls.{Call, step}
-use Rattle.script.specs.Lines.{call, ended, eventOf, printed, shown}
+use Rattle.script.specs.Lines.{shelfCall, ended, eventOf, printed, shown}
 use Rattle.script.specs.declared.writer.Event.{Event}
 use Rattle.script.specs.declared.writer.Event.the-variants as Events
 
@@ -46,10 +46,10 @@ pub record State : Type 0 where
 
 -- the outcome of the line that has begun, its output, and what its end leaves
 abbrev pub lineOutcome : State → Outcome Stripe
-lineOutcome x = outcome (call (x .line)) (x .stripe)
+lineOutcome x = outcome (shelfCall (x .line)) (x .stripe)
 
 abbrev pub lineOutput : State → List ℕ
-lineOutput x = output (suc (x .lines)) (call (x .line)) (lineOutcome x .answer)
+lineOutput x = output (suc (x .lines)) (shelfCall (x .line)) (lineOutcome x .answer)
 
 abbrev pub lineLeft : State → State
 lineLeft x = record { lines = suc (x .lines); line = []; stripe = lineOutcome x .after }

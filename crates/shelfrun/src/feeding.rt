@@ -4,7 +4,7 @@ ghost use mathlib.Core.Path.{_≡_};
 ghost use Prim.Native.Nat.{suc, _+_, _*_, _≤_, _<_, _^_};
 ghost use lib.ListN.{length, replicate, take};
 ghost use Rattle.io.specs.Counts.{Counts};
-ghost use Rattle.script.specs.Lines.{call};
+ghost use Rattle.script.specs.Lines.{shelfCall};
 ghost use Rattle.step.specs.View.{stripeOf};
 ghost use Rattle.shelfrun.specs.Shelfrun.{State, start, sizes, lastOutput};
 ghost use Rattle.shelfrun.specs.Feeding.{Answers, Feeds, Is, Keeps};
@@ -76,10 +76,10 @@ fn end_line(
     ensures { λ r. ⌜ r .end ≤ length (now (out .exit)) ⌝ }
     ensures { λ r. ⌜ ((x : State) →
         Is x lines reader (value ∷ []) (stripeOf sizes stripe (now (blocks .entry)) (now (spare .entry)) (now (differences .entry))) →
-        Answers (suc (x .lines)) (call (x .line)) (x .stripe) (now (out .entry)) (now (out .exit)) (r .end)
+        Answers (suc (x .lines)) (shelfCall (x .line)) (x .stripe) (now (out .entry)) (now (out .exit)) (r .end)
         (stripeOf sizes (r .stripe) (now (blocks .exit)) (now (spare .exit)) (now (differences .exit)))) ⌝ }
 {
-    let line = reader.finish();
+    let line = reader.finish().in_shelfrun();
     answering::answer(
         lines + 1,
         line,

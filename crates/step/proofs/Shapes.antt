@@ -16,12 +16,13 @@ use Rattle.records.specs.Client.{Client, nextNode}
 use Rattle.records.specs.View.{nodeOf, clientOf}
 use Rattle.calls.specs.declared.StepCall.{StepCall}
 use Rattle.calls.specs.declared.StepCall.the-variants as StepCalls
+use Rattle.calls.specs.declared.Answer.{Answer}
 use Rattle.calls.specs.declared.AtNode.{AtNode}
 use Rattle.calls.specs.declared.OfClient.{OfClient}
 use Rattle.calls.specs.declared.OfNode.{OfNode}
 use Rattle.calls.specs.Answers.{Meets, Left, answerOf, local, whole}
 use Rattle.calls.specs.Calls.{stepOf, caller, target, targetBy, looksAtAll, looksBy}
-use Rattle.calls.proofs.Left.{left-with, left-map}
+use Rattle.calls.proofs.Left.{left-same, left-with, left-map}
 use Rattle.stripe.specs.declared.seen.Seen.{Seen}
 use Rattle.stripe.specs.Seen.{applied, keep}
 use Rattle.rebuild.specs.declared.Stepped.{Stepped}
@@ -107,6 +108,12 @@ module _ {o : Outcome Local} {node : NodeRecord} {client : ClientRecord} {blocks
       → Meets o (r .answer) [] (local (nodeOf (r .node)) (clientOf client) blocks differences) (r .node ≡ node)
       → Meets o (q .answer) [] (local (nodeOf (q .node)) (clientOf (q .client)) blocks differences) ((q .node ≡ node) × (q .client ≡ client))
   of-node {r} e m = rw e record { said = m .said; left = left-map (r .answer) (λ l. (l, refl)) (m .left) }
+
+  -- and one that asks, and hands back none
+  pub of-answer : {a : Answer} → q ≡ record { answer = a; node = node; client = client }
+      → Meets o a [] (local (nodeOf node) (clientOf client) blocks differences) (Unit {0})
+      → Meets o (q .answer) [] (local (nodeOf (q .node)) (clientOf (q .client)) blocks differences) ((q .node ≡ node) × (q .client ≡ client))
+  of-answer {a} e m = rw e record { said = m .said; left = left-same a (refl, refl) }
 
 -- a call on the whole stripe; it is handed no differences
 module _ (z : Sizes) (call : StepCall) (seen : Seen) (node : NodeRecord) (client : ClientRecord) (value blocks spare differences : List ℕ)

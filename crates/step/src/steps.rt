@@ -7,6 +7,7 @@ ghost use Rattle.machine.specs.Calls.{stepAt};
 ghost use Rattle.records.specs.View.{nodeOf, clientOf};
 ghost use Rattle.stripe.specs.Seen.{keep};
 ghost use Rattle.step.specs.Steps.{StepsAs};
+use calls::Answer;
 use calls::AtNode;
 use calls::OfClient;
 use calls::OfNode;
@@ -55,6 +56,17 @@ fn failed(client: ClientRecord, r: OfNode) -> AtNode
 {
     let answer = r.answer;
     let node = r.node;
+    AtNode {
+        answer: answer,
+        node: node,
+        client: client,
+    }
+}
+
+// What a call that asks leaves: the very records.
+fn asked(node: NodeRecord, client: ClientRecord, answer: Answer) -> AtNode
+    ensures { λ s. ⌜ s ≡ record { answer = answer; node = node; client = client } ⌝ }
+{
     AtNode {
         answer: answer,
         node: node,
@@ -140,6 +152,7 @@ pub fn step(
             differences,
         )),
         StepCall::Fail(j) => kept(failed(client, failure::fail(z, j, value, node, blocks))),
+        StepCall::Due(j) => kept(asked(node, client, aging::due(z, j, node))),
         StepCall::At(op, c, j) => kept(at_node(z, op, c, j, node, client, blocks, differences)),
         StepCall::By(op, c) => by_client(z, op, c, seen, node, client, blocks, spare),
     }

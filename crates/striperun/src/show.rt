@@ -65,6 +65,13 @@ fn put_check(out: &mut [u8], at: usize, told: CheckAnswer) -> usize {
 fn put_finding(out: &mut [u8], at: usize, finding: Finding) -> usize {
     match finding {
         Finding::Check(told) => put_check(out, at, told),
+        Finding::Due(is_due) => {
+            if is_due {
+                put_text(out, at, b"due")
+            } else {
+                put_text(out, at, b"no")
+            }
+        }
     }
 }
 

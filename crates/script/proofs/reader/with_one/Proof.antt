@@ -41,7 +41,10 @@ returns-12 : tie.Need-returns-12
 returns-12 c = λ value. rw (c .before .match .keys12) (c .by10 .ensures value)
 
 returns-13 : tie.Need-returns-13
-returns-13 c = λ value. let others = c .match .rest in simp (ne-eqb _ 68 (others .0 .0 .0 .0 .0 .0 .0 .0 .0 .0 .0 .1), ne-eqb _ 71 (others .0 .0 .0 .0 .0 .0 .0 .0 .0 .0 .1), ne-eqb _ 82 (others .0 .0 .0 .0 .0 .0 .0 .0 .0 .1), ne-eqb _ 76 (others .0 .0 .0 .0 .0 .0 .0 .0 .1), ne-eqb _ 80 (others .0 .0 .0 .0 .0 .0 .0 .1), ne-eqb _ 79 (others .0 .0 .0 .0 .0 .0 .1), ne-eqb _ 73 (others .0 .0 .0 .0 .0 .1), ne-eqb _ 87 (others .0 .0 .0 .0 .1), ne-eqb _ 84 (others .0 .0 .0 .1), ne-eqb _ 85 (others .0 .0 .1), ne-eqb _ 81 (others .0 .1), ne-eqb _ 67 (others .1))
+returns-13 c = λ value. rw (c .match .keys13)
+
+returns-14 : tie.Need-returns-14
+returns-14 c = λ value. let others = c .match .rest in simp (ne-eqb _ 68 (others .0 .0 .0 .0 .0 .0 .0 .0 .0 .0 .0 .0 .1), ne-eqb _ 71 (others .0 .0 .0 .0 .0 .0 .0 .0 .0 .0 .0 .1), ne-eqb _ 82 (others .0 .0 .0 .0 .0 .0 .0 .0 .0 .0 .1), ne-eqb _ 76 (others .0 .0 .0 .0 .0 .0 .0 .0 .0 .1), ne-eqb _ 80 (others .0 .0 .0 .0 .0 .0 .0 .0 .1), ne-eqb _ 79 (others .0 .0 .0 .0 .0 .0 .0 .1), ne-eqb _ 73 (others .0 .0 .0 .0 .0 .0 .1), ne-eqb _ 87 (others .0 .0 .0 .0 .0 .1), ne-eqb _ 84 (others .0 .0 .0 .0 .1), ne-eqb _ 85 (others .0 .0 .0 .1), ne-eqb _ 81 (others .0 .0 .1), ne-eqb _ 67 (others .0 .1), ne-eqb _ 90 (others .1))
 
 pub with-one-spec : {M : Type 1} → statement M
 with-one-spec =
@@ -69,4 +72,5 @@ with-one-spec =
     returns-10
     returns-11
     returns-12
-    returns-13)
+    returns-13
+    returns-14)

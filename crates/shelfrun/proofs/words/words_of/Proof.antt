@@ -15,5 +15,5 @@ words-of-spec =
     (λ c. search needs)
     (λ c κs. search needs)
     (λ c value. rw (c .before .enum-told .given .1) record { event-of = refl; byte-read = c .if-shown .ensures })
-    (λ c value. rw (c .enum-told2 .given .1) record { event-of = refl; byte-read = none-shown _ })
-    (λ c value. rw (c .before .before .call .given .1) record { event-of = c .event-of .ensures value; byte-read = none-shown _ }))
+    (λ c value. rw (c .enum-told2 .given .1) record { event-of = refl; byte-read = none-shown (c .before .before .args .answer) })
+    (λ c value. rw (c .before .before .call .given .1) record { event-of = c .event-of .ensures value; byte-read = none-shown (c .before .before .before .before .args .answer) }))
