@@ -1,7 +1,7 @@
 -- Demand 3 of every list of calls of the entry points of shelf. Assumes nothing.
 use mathlib.Core.Path.{_≡_, refl}
-use mathlib.Core.Logic.{_⊎_}
-use mathlib.Core.List.{List, _∷_, map}
+use mathlib.Core.Logic.{_⊎_, inr}
+use mathlib.Core.List.{List, [], _∷_, map}
 use Prim.Native.Nat.{ℕ, zero, suc, _*_}
 use lib.ListN.{replicate}
 use Rattle.machine.specs.Stripe as Machine
@@ -13,24 +13,49 @@ use Rattle.records.specs.declared.Sizes.{Sizes}
 use Rattle.records.specs.Client.{freshClient}
 use Rattle.records.specs.Node.{freshNode}
 use Rattle.records.specs.View.{clientOf, nodeOf}
+use Rattle.calls.proofs.Numbers.{left-one}
 use Rattle.shelf.specs.Table.{clientsIn}
-use Rattle.runs.specs.Entered.{Tables, tablesOf, Enters, stepped, picked, shown, Demand3Entered}
-use Rattle.runs.proofs.Runs.{Stepped, guarded, demand3-of}
+use Rattle.runs.specs.Entered.{Tables, tablesOf, Enters, stepped, picked, shown, EntersOne, kept, others, Demand3Entered}
+use Rattle.runs.proofs.Runs.{Stepped, refused-one, guarded, stepped-same, demand3-of}
 
 -- the machine's step on what the tables stand for, but for the tests of their lengths and of a read's buffer
 enters-step : (z y : Sizes) (t : Tables) (call : Calls.Call) (a : Machine.Answer) (t′ : Tables) → (y ≡ z) ⊎ (number a ≡ 1) → Enters t y call a t′
     → Stepped z call (tablesOf z t) a (tablesOf z t′)
-enters-step z y t call a t′ permitted (stepped q value answer after s) =
-    guarded z call (tablesOf z t) _ permitted (s .said)
-enters-step z y t call a t′ permitted (picked q answer nodes clients spare p) =
-    guarded z call (tablesOf z t) _ permitted
-    (p (t .differences) .said)
+enters-step z y t call a t′ permitted (stepped q value answer after s) = guarded z call (tablesOf z t) _ permitted (s .said)
+enters-step z y t call a t′ permitted (picked q answer nodes clients spare p) = guarded z call (tablesOf z t) _ permitted (p (t .differences) .said)
 enters-step z y t call a t′ permitted (shown q out answer out′ r) =
-    guarded z call (tablesOf z t) _ permitted
-    (r (clientsIn (t .clients)) (t .spare) (t .differences) .said)
+    guarded z call (tablesOf z t) _ permitted (r (clientsIn (t .clients)) (t .spare) (t .differences) .said)
+
+steps-one : (z y : Sizes) (t : Tables) (call : Calls.Call) (a : Machine.Answer) (t′ : Tables) → (y ≡ z) ⊎ (number a ≡ 1) → EntersOne t y call a t′
+    → Stepped z call (tablesOf z t) a (tablesOf z t′)
+steps-one z y t call a t′ permitted (kept x op answer after m) = enters-step z y t call a t′ permitted m
+steps-one z y t call a t′ permitted (others x op u m) = refused-one z call (tablesOf z t) refl
 
 pub demand3-entered : Demand3Entered
-demand3-entered = demand3-of tablesOf Enters enters-step
+demand3-entered = demand3-of tablesOf EntersOne steps-one
+
+-- answered 1, a call leaves the very tables that it was lent: so lent others than those that are kept, it leaves these too
+pub refused-same : (z : Sizes) (t : Tables) (call : Calls.Call) (a : Machine.Answer) (t′ : Tables) → Enters t z call a t′ → number a ≡ 1 → t′ ≡ t
+refused-same z t call a t′ (stepped q value answer after s) one =
+    let same = left-one answer [] one (s .left) in
+    λ i. record {
+      nodes = same .0 i;
+      clients = same .1 .0 i;
+      blocks = same .1 .1 .0 i;
+      spare = same .1 .1 .1 .0 i;
+      differences = same .1 .1 .1 .1 i;
+    }
+refused-same z t call a t′ (picked q answer nodes clients spare p) one =
+    let same = left-one answer [] one (p [] .left) in
+    let seen = stepped-same (enters-step z z t call a _ (inr one) (picked q answer nodes clients spare p)) one in
+    λ i. record {
+      nodes = same .0 i;
+      clients = same .1 i;
+      blocks = t .blocks;
+      spare = seen i .spare;
+      differences = t .differences;
+    }
+refused-same z t call a t′ (shown q out answer out′ r) one = refl
 
 -- n records and m records, as `NodeRecord::fresh()` and `ClientRecord::fresh()` ensure them, and blocks of zeros are a fresh stripe
 map-replicate : {A B : Type 0} (f : A → B) (n : ℕ) (x : A) (y : B) → f x ≡ y → map f (replicate n x) ≡ replicate n y

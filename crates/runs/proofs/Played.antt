@@ -1,60 +1,27 @@
 -- Demand 3 of every list of calls of `step::play`. Assumes nothing.
-use mathlib.Core.Path.{_≡_, refl, ap, subst}
+use mathlib.Core.Path.{_≡_, refl, subst}
 use mathlib.Core.Logic.{_⊎_, inl, inr}
-use mathlib.Core.Bool.{not}
 use mathlib.Core.List.{List}
 use Prim.Native.Nat.{ℕ}
-use native.Mathlib.Omega.{arith}
-use lib.Dec.{eqb}
-use lib.ListN.{length}
 use Rattle.machine.specs.Stripe.{number, answered}
 use Rattle.machine.specs.Stripe as Machine
 use Rattle.machine.specs.Calls as Calls
 use Rattle.records.specs.declared.Sizes.{Sizes}
-use Rattle.records.specs.declared.Refusal.{Refusal}
-use Rattle.records.specs.declared.Refusal.the-variants as Refusals
-use Rattle.records.specs.declared.Refusal.the-variants.{OutOfLimits}
-use Rattle.records.specs.Refusals.{numberOf}
 use Rattle.calls.specs.declared.Answer.{Answer}
-use Rattle.calls.specs.declared.Answer.the-variants.{Accepted, Shown, Added, Done, Rebuilt, Told, Refused}
-use Rattle.calls.specs.Answers.{answerOf, Left}
+use Rattle.calls.specs.Answers.{answerOf}
 use Rattle.calls.specs.declared.Call.{Call}
 use Rattle.calls.specs.declared.Call.the-variants.{Read, Pick, Step}
 use Rattle.calls.specs.Calls.{callOf}
 use Rattle.step.specs.View.{Stored, storedOf}
 use Rattle.step.specs.Plays.{playing, shownBy}
+use Rattle.calls.proofs.Numbers.{answer-one, left-one}
 use Rattle.runs.specs.Played.{PlaysOne, played, Demand3Played}
 use Rattle.runs.proofs.Runs.{Stepped, refused-one, guarded, demand3-of}
-
--- 1 is one refusal's number
-why-one : (why : Refusal) → numberOf why ≡ 1 → why ≡ OutOfLimits
-why-one Refusals.OutOfLimits e = refl
-why-one Refusals.OutOfRange e = absurd (omega arith)
-why-one Refusals.OutOfPhase e = absurd (omega arith)
-why-one (Refusals.WrongMode opmode lmode) e = absurd (omega arith)
-why-one (Refusals.OldEpoch epoch) e = absurd (omega arith)
-why-one (Refusals.BeforePrevious id) e = absurd (omega arith)
-why-one Refusals.Full e = absurd (omega arith)
-why-one Refusals.Exhausted e = absurd (omega arith)
-why-one Refusals.Locked e = absurd (omega arith)
-why-one Refusals.NotHeld e = absurd (omega arith)
-why-one (Refusals.TooFew size) e = absurd (omega arith)
-why-one Refusals.NoInverse e = absurd (omega arith)
-
--- the code's answer with the number 1
-answer-one : (a : Answer) (shown : List ℕ) → number (answerOf a shown) ≡ 1 → a ≡ Refused OutOfLimits
-answer-one Accepted shown e = absurd (omega arith)
-answer-one Shown shown e = absurd (omega arith)
-answer-one Added shown e = absurd (omega arith)
-answer-one Done shown e = absurd (omega arith)
-answer-one Rebuilt shown e = absurd (omega arith)
-answer-one (Told finding) shown e = absurd (omega arith)
-answer-one (Refused why) shown e = ap Refused (why-one why e)
 
 -- what is played is the machine's step, but for the test of a read's buffer
 plays-step : (z : Sizes) (call : Call) (value shown : List ℕ) (s : Machine.Stripe) {a : Machine.Answer} {s′ : Machine.Stripe}
     → answered a s′ ≡ playing z call value shown s → Stepped z (callOf call value) s a s′
-plays-step z (Read i) value shown s e = guarded z (Calls.Read i) s (not (eqb (length shown) (z .b))) (inl refl) e
+plays-step z (Read i) value shown s e = guarded z (Calls.Read i) s _ (inl refl) e
 plays-step z (Pick c) value shown s e = record { sizes = z; is = e; permitted = inl refl }
 plays-step z (Step call) value shown s e = record { sizes = z; is = e; permitted = inl refl }
 
@@ -70,7 +37,7 @@ steps-one z y s call a s′ permitted (played {call = c} {value = value} {shown 
         (subst (λ z. answered (answerOf answer (shownBy c shown′)) (storedOf z s′) ≡ playing z c value shown (storedOf z s)) e (p .said))
     by (inr one) =
         let is = answer-one answer (shownBy c shown′) one in
-        let same : s′ ≡ s = subst (λ a. Left a (s′ ≡ s)) is (p .left) in
+        let same : s′ ≡ s = left-one answer (shownBy c shown′) one (p .left) in
         refused-one z (callOf c value) (storedOf z s) (λ i. answered (answerOf (is i) (shownBy c shown′)) (storedOf z (same i)))
 
 pub demand3-played : Demand3Played

@@ -15,6 +15,7 @@ use Rattle.machine.specs.History.{Event, nodesAt, sizesAt}
 use Rattle.machine.specs.Guarantee.{Request, Allowed, AllAllowed, Holds, made, play, start, valueOf}
 use Rattle.machine.specs.Guarantee as Machine
 use Rattle.machine.proofs.Outside.{step-outside}
+use Rattle.machine.proofs.Refusals.{limits-same}
 use Rattle.machine.proofs.Theorem.{demand3}
 use Rattle.records.specs.declared.Sizes.{Sizes}
 use Rattle.records.specs.declared.Refusal.the-variants.{OutOfLimits}
@@ -50,6 +51,10 @@ module _ (z : Sizes) (call : Call) (s : Stripe) {answer : Answer} {s′ : Stripe
   unfolding guard
   guarded true p e = refused-one e
   guarded false {y} p e = record { sizes = y; is = e; permitted = p }
+
+-- answered 1, it leaves the stripe as it was
+pub stepped-same : {z : Sizes} {call : Call} {s : Stripe} {answer : Answer} {s′ : Stripe} → Stepped z call s answer s′ → number answer ≡ 1 → s′ ≡ s
+stepped-same {call = call} {s = s} x one = ap (λ o. o .after) (x .is) ∙ limits-same (x .sizes) s call (ap (λ o. number (o .answer)) (sym (x .is)) ∙ one)
 
 -- ---- the list
 

@@ -48,7 +48,7 @@ use Rattle.shelf.specs.Shelf.{stripeIn}
 use Rattle.shelf.specs.Table.{clientsIn, nodesIn}
 use Rattle.runs.specs.Runs.{Begun, Permitted, Run, begun, called}
 use Rattle.runs.specs.Played.{PlaysOne, played}
-use Rattle.runs.specs.Entered.{Tables, tablesOf, Enters, stepped, picked}
+use Rattle.runs.specs.Entered.{Tables, tablesOf, stepped, picked, EntersOne, kept}
 use Rattle.runs.proofs.Trace.{z, freshRecord, freshClientRecord, Shot, atFirst, writing, locking, afterPick, finishing}
 use Rattle.runs.proofs.Played.{demand3-played}
 use Rattle.runs.proofs.Entered.{fresh-tables, demand3-entered}
@@ -101,7 +101,7 @@ passes false e s o = clash e refl
 
 pub record Ran (t : Tables) (past : List Event) : Type 0 where
   pub full : isFull t ≡ true
-  pub entered : Run tablesOf Enters z t past
+  pub entered : Run tablesOf EntersOne z t past
   pub played : Run storedOf PlaysOne z (byValue t) past
 
 abbrev isBytes : List ℕ → Bool
@@ -138,11 +138,11 @@ step-more t past r x fit said =
       full = rest .1;
       entered =
           called (r .entered) permitted
-          (stepped (record { z = z; call = x .call }) (x .value) (x .answer) (x .after)
+          (kept _ _ _ _ (stepped (record { z = z; call = x .call }) (x .value) (x .answer) (x .after)
           (record {
             said = said ∙ passes (isFull t) (r .full) (tablesOf z t) (step z (stepOf (x .call) (x .value)) (tablesOf z t));
             left = left-free (x .answer) _ changes;
-          }));
+          })));
       played =
           called (r .played) permitted
           (played {call = Call.Step (x .call)} {value = x .value} {shown = []} {answer = x .answer} {shown′ = []}
@@ -196,11 +196,11 @@ module _ (t : Tables) (c : ℕ) (nodes : List NodeRecord) (clients : List Client
         full = full;
         entered =
             called (r .entered) permitted
-            (picked (record { z = z; c = c }) Accepted nodes clients spare
+            (kept _ _ _ _ (picked (record { z = z; c = c }) Accepted nodes clients spare
             (λ differences. record {
               said = ap (lending differences) said ∙ passes (isFull t) (r .full) (with differences) (step z (Pick c) (with differences));
               left = tt;
-            }));
+            })));
         played =
             called (r .played) permitted
             (played {call = Call.Pick c} {value = []} {shown = []} {answer = Accepted} {shown′ = []}

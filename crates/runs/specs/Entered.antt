@@ -5,6 +5,7 @@ use Rattle.machine.specs.Stripe as Machine
 use Rattle.machine.specs.Calls as Calls
 use Rattle.records.specs.declared.ClientRecord.{ClientRecord}
 use Rattle.records.specs.declared.NodeRecord.{NodeRecord}
+use Rattle.records.specs.declared.Refusal.the-variants.{OutOfLimits}
 use Rattle.records.specs.declared.Sizes.{Sizes}
 use Rattle.calls.specs.declared.Answer.{Answer}
 use Rattle.calls.specs.Answers.{answerOf}
@@ -40,5 +41,11 @@ pub data Enters (t : Tables) : Sizes → Calls.Call → Machine.Answer → Table
       → Reads (t .nodes) out (t .blocks) q answer out′
       → Enters t (q .z) (Calls.Read (q .i)) (answerOf answer out′) t
 
+-- a call is lent the tables that are kept; or it is lent others, "length outside the limits", a part of them say, which it leaves as they are
+pub data EntersOne (t : Tables) : Sizes → Calls.Call → Machine.Answer → Tables → Type 0 where
+  kept : (z : Sizes) (call : Calls.Call) (answer : Machine.Answer) (t′ : Tables) → Enters t z call answer t′ → EntersOne t z call answer t′
+  others : (z : Sizes) (call : Calls.Call) (u : Tables) → Enters u z call (Machine.Refused OutOfLimits) u
+      → EntersOne t z call (Machine.Refused OutOfLimits) t
+
 abbrev pub Demand3Entered : Type 0
-Demand3Entered = Demand3Of tablesOf Enters
+Demand3Entered = Demand3Of tablesOf EntersOne
