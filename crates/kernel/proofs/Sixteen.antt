@@ -4,17 +4,17 @@ use mathlib.Core.Logic.{_⊎_, inl, inr}
 use mathlib.Core.Path.{_≡_, refl, sym, ap, _∙_}
 use Prim.Native.Nat.{ℕ, zero, suc, _+_, _-_, _*_, _/_, _%_, _≤_, _<_}
 use native.Mathlib.Decide.{ℕ-discrete, decLt}
-use native.Mathlib.Nat.{div-add-mod', mod-lt, zero-mul, one-mul}
+use native.Mathlib.Nat.{add-sub-cancel-left, div-add-mod', mod-lt, zero-mul, one-mul}
 use native.Mathlib.Omega.{arith}
 use lib.Bits.{bitXor}
-use lib.ListN.{length, getD, drop, set, replicate, length-set, length-append, length-drop, length-replicate, getD-replicate, List·getD-append}
-use lib.Seq.{getD-append-add, getD-drop, getD-set-same, getD-set-other}
+use lib.ListN.{length, getD, take, drop, set, replicate, length-set, length-append, length-drop, length-replicate, getD-replicate, List·getD-append}
+use lib.Seq.{length-take-le, getD-take, getD-append-add, getD-drop, getD-set-same, getD-set-other}
 use borrow.Author.Tests.{lt-ltb, le-ltb}
 use Rattle.gf256.proofs.Xor.{xors}
-use Rattle.blocks.specs.Blocks.{part}
+use Rattle.blocks.specs.Blocks.{part, setPart}
 use Rattle.basics.specs.Lists.{listOf}
 use Rattle.kernel.specs.Lanes.{lane, chosen}
-use Rattle.blocks.proofs.Parts.{part-length, part-at}
+use Rattle.blocks.proofs.Parts.{part-length, part-at, set-length, put-in, put-before}
 use Rattle.blocks.proofs.Tabled.{listOf-is}
 
 -- ---- reading
@@ -54,6 +54,23 @@ module _ (t : List ℕ) (a n : ℕ) where
   read-all many fits =
       listOf-is 16 (lane t a n) (part a 16 t) (part-length a 16 t (omega arith))
       (λ l h. part-at a 16 t l h ∙ sym (lane-in l (omega arith)))
+
+-- ---- putting
+
+-- r from a on, as far as the list goes
+abbrev pub PutIn : ℕ → List ℕ → List ℕ → List ℕ → Type 0
+PutIn a r old now =
+    (length now ≡ length old) × ((i : ℕ) → i < a → getD now i 0 ≡ getD old i 0) × ((l : ℕ) → l < 16 → a + l < length old → getD now (a + l) 0 ≡ getD r l 0)
+
+pub put-is : (a k : ℕ) (p r old : List ℕ) → a + k ≤ length old → p ≡ take k r → k ≤ length r → ((l : ℕ) → l < 16 → a + l < length old → l < k)
+    → PutIn a r old (setPart a (a + k - a) p old)
+put-is a k p r old fits e long far =
+    let many : length p ≡ k = ap length e ∙ length-take-le k r long in
+    rw (add-sub-cancel-left a k) (
+      set-length a k p old fits many,
+      put-before a k p old fits many,
+      λ l h i. put-in a k p old fits many l (far l h i) ∙ ap (λ d. getD d l 0) e ∙ getD-take k r l 0 (far l h i),
+    )
 
 -- ---- the sums
 

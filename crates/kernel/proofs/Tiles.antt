@@ -1,6 +1,7 @@
 -- The kernel's sums (src/sums.rt, bits.rt): those of a group of sources, and those of a tile. Assumes nothing.
 use mathlib.Core.List.{List}
-use mathlib.Core.Path.{_≡_, refl, sym, ap, _∙_}
+use mathlib.Core.Logic.{_⊎_, inl, inr}
+use mathlib.Core.Path.{_≡_, refl, sym, ap, subst, _∙_}
 use Prim.Native.Nat.{ℕ, suc, _+_, _-_, _*_, _/_, _%_, _≤_, _<_}
 use native.Mathlib.Decide.{ℕ-discrete, decLt}
 use native.Mathlib.Nat.{add-sub-cancel-left, suc-mul, mul-le-mul-right}
@@ -9,14 +10,12 @@ use lib.Bits.{bitAnd}
 use lib.ListN.{length, getD, take}
 use lib.Seq.{getD-take, length-take-le}
 use Rattle.basics.proofs.Computed.{every, same-below}
-use Rattle.blocks.specs.Blocks.{setPart, table, byteAt}
+use Rattle.blocks.specs.Blocks.{setPart}
 use Rattle.basics.specs.Lists.{listOf}
 use Rattle.kernel.specs.Lanes.{lane, chosen}
 use Rattle.blocks.proofs.Parts.{set-length, put-in, put-before, put-after}
-use Rattle.basics.proofs.Lists.{getD-listOf, listOf-cong}
-use Rattle.blocks.proofs.Tables.{length-table, byteAt-table}
-use Rattle.blocks.proofs.Tabled.{Tabled, listOf-is}
-use Rattle.kernel.specs.Working.{Prepared, Filled, groupSum, spread, highest}
+use Rattle.basics.proofs.Lists.{length-listOf, getD-listOf, listOf-cong}
+use Rattle.kernel.specs.Working.{Summed, Prepared, Filled, groupSum, spread, highest}
 
 -- ---- a group
 
@@ -35,45 +34,59 @@ module _ (t starts : List ℕ) (p n g : ℕ) where
       at : (q i : ℕ) → getD (of q) (i % 16) 0 ≡ lane t (getD starts q 0 + p) n (i % 16)
       at q i = getD-listOf 16 (lane t (getD starts q 0 + p) n) (i % 16) 0 (omega arith)
 
--- ---- a tile
+-- ---- a tile: the sums of one group after the other, each along the tile
 
-pub listOf-self : (n : ℕ) (d : List ℕ) → length d ≡ n → d ≡ listOf n (λ i. getD d i 0)
-listOf-self n d l = listOf-is n (λ i. getD d i 0) d l (λ p h. refl)
+module _ (t starts : List ℕ) (p n : ℕ) (few : n ≤ 256) where
+  pub summed-none : (s : List ℕ) → length s ≡ 12288 → Summed t starts p n 0 0 s
+  summed-none s e = record { size = e; at = λ u h i hu h3 hi l. absurd (omega arith) }
 
-module _ (t starts : List ℕ) (p n : ℕ) where
-  -- the sums of 16 bytes, which c times 16 bytes stand before
-  pub chunk : ℕ → List ℕ
-  chunk c = table 3 256 (λ g. groupSum t starts (p + 16 * c) (n - 16 * c) (g - 1))
-
-  abbrev pub chunkByte : ℕ → ℕ → ℕ
-  chunkByte c i = getD (chunk (c - 1)) i 0
-
-  pub chunk-turn : (c : ℕ) (d : List ℕ) → d ≡ table 3 256 (λ g. groupSum t starts (p + 16 * c) (n - 16 * c) (g - 1)) → d ≡ listOf 768 (chunkByte (suc c))
-  unfolding chunk listOf
-  chunk-turn c d e =
-      let here : suc c - 1 ≡ c = omega arith in
-      rw here (ap (λ x. x) e ∙ listOf-self 768 (table 3 256 (λ g. groupSum t starts (p + 16 * c) (n - 16 * c) (g - 1))) (length-table 3 256 _))
-
-  pub prepared : (c : ℕ) (s : List ℕ) → c ≤ 16 → n ≤ 16 * c → Tabled 16 768 chunkByte c s → Prepared t starts p n s
-  unfolding chunk byteAt
-  prepared c s few all done = record { size = done .size; at = at }
+  pub summed-turn : (g c : ℕ) (s d : List ℕ) → g < 3 → 16 * c < n → Summed t starts p n g c s
+      → d ≡ listOf 256 (groupSum t starts (p + 16 * c) (n - 16 * c) g)
+      → Summed t starts p n g (c + 1) (setPart (c * 768 + g * 256) (c * 768 + g * 256 + 256 - (c * 768 + g * 256)) d s)
+  summed-turn g c s d g3 cn done e =
+      rw (add-sub-cancel-left a 256)
+      record { size = set-length a 256 d s fits many ∙ done .size; at = λ u h i hu h3 hi l. by u h i hu h3 hi l (ℕ-discrete (16 * h + u) (16 * g + c)) }
     where
-      in-chunk : (u g i : ℕ) → g < 3 → i < 256 → getD (chunk u) (g * 256 + i) 0 ≡ groupSum t starts (p + 16 * u) (n - 16 * u) g i
-      in-chunk u g i hg hi =
-          let e : suc g - 1 ≡ g = omega arith in
-          rw e at (byteAt-table 3 256 (λ g. groupSum t starts (p + 16 * u) (n - 16 * u) (g - 1)) (suc g) i (omega arith) (omega arith) hi)
+      a : ℕ
+      a = c * 768 + g * 256
 
-      in-tile : (u i : ℕ) → u < c → i < 768 → getD s (u * 768 + i) 0 ≡ getD (chunk u) i 0
-      in-tile u i hu hi =
-          let e : suc u - 1 ≡ u = omega arith in
-          sym (getD-take (c * 768) s (u * 768 + i) 0 (omega arith))
-          ∙ ap (λ d. getD d (u * 768 + i) 0) (done .blocks)
-          ∙ rw e at (byteAt-table c 768 chunkByte (suc u) i (omega arith) (omega arith) hi)
+      fits : a + 256 ≤ length s
+      fits = omega (arith, done .size)
 
-      at : (u g v l : ℕ) → 16 * u + l < n → g < 3 → v < 16 → l < 16
-          → getD s (u * 768 + (g * 256 + (16 * v + l))) 0 ≡ groupSum t starts (p + 16 * u) (n - 16 * u) g (16 * v + l)
-      at u g v l hn hg hv hl =
-          in-tile u (g * 256 + (16 * v + l)) (omega arith) (omega arith) ∙ in-chunk u g (16 * v + l) hg (omega arith)
+      many : length d ≡ 256
+      many = ap length e ∙ length-listOf 256 (groupSum t starts (p + 16 * c) (n - 16 * c) g)
+
+      elsewhere : (k : ℕ) → (k < a) ⊎ (a + 256 ≤ k) → getD (setPart a 256 d s) k 0 ≡ getD s k 0
+      elsewhere k (inl l) = put-before a 256 d s fits many k l
+      elsewhere k (inr l) = put-after a 256 d s fits many k l
+
+      side : (u h i : ℕ) → u < 16 → h < 3 → i < 256 → 16 * h + u < 16 * g + c → (u * 768 + (h * 256 + i) < a) ⊎ (a + 256 ≤ u * 768 + (h * 256 + i))
+      side u h i hu h3 hi l = which (decLt (u * 768 + (h * 256 + i)) a)
+        where
+          which : Dec (u * 768 + (h * 256 + i) < a) → (u * 768 + (h * 256 + i) < a) ⊎ (a + 256 ≤ u * 768 + (h * 256 + i))
+          which (yes b) = inl b
+          which (no b) = inr (omega arith)
+
+      by : (u h i : ℕ) → 16 * u < n → h < 3 → i < 256 → 16 * h + u < 16 * g + (c + 1) → Dec (16 * h + u ≡ 16 * g + c)
+          → getD (setPart a 256 d s) (u * 768 + (h * 256 + i)) 0 ≡ groupSum t starts (p + 16 * u) (n - 16 * u) h i
+      by u h i hu h3 hi l (yes same) =
+          let eu : u ≡ c = omega arith in
+          let eh : h ≡ g = omega arith in
+          let place : c * 768 + (g * 256 + i) ≡ a + i = omega arith in
+          rw (eu, eh)
+          (ap (λ k. getD (setPart a 256 d s) k 0) place ∙ put-in a 256 d s fits many i hi ∙ ap (λ x. getD x i 0) e
+          ∙ getD-listOf 256 (groupSum t starts (p + 16 * c) (n - 16 * c) g) i 0 hi)
+      by u h i hu h3 hi l (no other) =
+          elsewhere (u * 768 + (h * 256 + i)) (side u h i (omega arith) h3 hi (omega arith)) ∙ done .at u h i hu h3 hi (omega arith)
+
+  -- a group is there when all its bytes are
+  pub summed-group : (g c : ℕ) (s : List ℕ) → n ≤ 16 * c → Summed t starts p n g c s → Summed t starts p n (g + 1) 0 s
+  summed-group g c s all done =
+      record { size = done .size; at = λ u h i hu h3 hi l. done .at u h i hu h3 hi (omega arith) }
+
+  pub prepared : (s : List ℕ) → Summed t starts p n 3 0 s → Prepared t starts p n s
+  prepared s done =
+      record { size = done .size; at = λ c g v l hn hg hv hl. done .at c g (16 * v + l) (omega arith) hg (omega arith) (omega arith) }
 
 -- ---- digits
 
@@ -81,7 +94,7 @@ pub spread-is : (w : ℕ) → w < 256 → bitAnd (bitAnd (bitAnd (w * 4097) 9830
 unfolding every spread
 spread-is = same-below 256 (λ w. bitAnd (bitAnd (bitAnd (w * 4097) 983055 * 65) 50529027 * 9) 286331153) (spread 8) refl
 
--- ---- one block: sixteen bytes are put
+-- ---- one block
 
 -- r from a on, as far as the list goes
 abbrev pub PutIn : ℕ → List ℕ → List ℕ → List ℕ → Type 0
@@ -98,22 +111,42 @@ put-is a k p r old fits e long far =
       λ l h i. put-in a k p old fits many l (far l h i) ∙ ap (λ d. getD d l 0) e ∙ getD-take k r l 0 (far l h i),
     )
 
--- after c turns its first 16 times c bytes are there
+-- what holds of the sums of a byte gives the byte: after c turns of its first 16 times c bytes
+abbrev pub Bytewise : (ℕ → Type 0) → (ℕ → ℕ) → ℕ → List ℕ → Type 0
+Bytewise P f k out = (i : ℕ) → i < k → P (i / 16 * 768 + i % 16) → getD out i 0 ≡ f (i / 16 * 768 + i % 16)
 
-abbrev pub Bytewise : (ℕ → ℕ) → ℕ → ℕ → List ℕ → Type 0
-Bytewise f n k out = (i : ℕ) → i < k → i < n → getD out i 0 ≡ f (i / 16 * 768 + i % 16)
-
-pub bytewise-turn : (f : ℕ → ℕ) (n c : ℕ) (old now : List ℕ) → Bytewise f n (16 * c) old
-    → ((i : ℕ) → i < 16 * c → getD now i 0 ≡ getD old i 0)
-    → ((l : ℕ) → l < 16 → 16 * c + l < n → getD now (16 * c + l) 0 ≡ f (c * 768 + l)) → Bytewise f n (16 * (c + 1)) now
-bytewise-turn f n c old now upto kept here i hi hn = by (decLt i (16 * c))
+pub bytewise-turn : (P : ℕ → Type 0) (f : ℕ → ℕ) (c : ℕ) (out d : List ℕ) → 16 * c + 16 ≤ length out → length d ≡ 16 → Bytewise P f (16 * c) out
+    → ((l : ℕ) → l < 16 → P (c * 768 + l) → getD d l 0 ≡ f (c * 768 + l))
+    → Bytewise P f (16 * (c + 1)) (setPart (16 * c) (16 * c + 16 - 16 * c) d out)
+bytewise-turn P f c out d fits many upto here = rw (add-sub-cancel-left (16 * c) 16) (λ i hi h. by i hi h (decLt i (16 * c)))
   where
-    by : Dec (i < 16 * c) → getD now i 0 ≡ f (i / 16 * 768 + i % 16)
-    by (yes l) = kept i l ∙ upto i l hn
-    by (no o) =
+    by : (i : ℕ) → i < 16 * (c + 1) → P (i / 16 * 768 + i % 16) → Dec (i < 16 * c) → getD (setPart (16 * c) 16 d out) i 0 ≡ f (i / 16 * 768 + i % 16)
+    by i hi h (yes l) = put-before (16 * c) 16 d out fits many i l ∙ upto i l h
+    by i hi h (no o) =
         let e : 16 * c + (i - 16 * c) ≡ i = omega arith in
-        let at : c * 768 + (i - 16 * c) ≡ i / 16 * 768 + i % 16 = omega arith in
-        ap (λ k. getD now k 0) (sym e) ∙ here (i - 16 * c) (omega arith) (omega arith) ∙ ap f at
+        let at : i / 16 * 768 + i % 16 ≡ c * 768 + (i - 16 * c) = omega arith in
+        ap (λ k. getD (setPart (16 * c) 16 d out) k 0) (sym e) ∙ put-in (16 * c) 16 d out fits many (i - 16 * c) (omega arith)
+        ∙ here (i - 16 * c) (omega arith) (subst P at h) ∙ ap f (sym at)
+
+-- the whole sixteens of n bytes, and then the rest, which r has
+module _ (P : ℕ → Type 0) (f : ℕ → ℕ) (n : ℕ) (fine : (i : ℕ) → i < n → P (i / 16 * 768 + i % 16)) (whole : List ℕ)
+    (wholes : (i : ℕ) → i < n / 16 * 16 → P (0 + (i / 16 * 768 + i % 16)) → getD whole i 0 ≡ f (0 + (i / 16 * 768 + i % 16))) where
+  pub whole-is : (i : ℕ) → i < n → i < n / 16 * 16 → getD whole i 0 ≡ f (i / 16 * 768 + i % 16)
+  whole-is i h l = let e : 0 + (i / 16 * 768 + i % 16) ≡ i / 16 * 768 + i % 16 = omega arith in rw e at (wholes i l) (fine i h)
+
+  pub rest-is : (r now : List ℕ) → ((i : ℕ) → i < 16 * (n / 16) → getD now i 0 ≡ getD whole i 0)
+      → ((l : ℕ) → l < 16 → 16 * (n / 16) + l < n → getD now (16 * (n / 16) + l) 0 ≡ getD r l 0)
+      → ((l : ℕ) → l < 16 → P (n / 16 * 768 + (l / 16 * 768 + l % 16)) → getD r l 0 ≡ f (n / 16 * 768 + (l / 16 * 768 + l % 16)))
+      → (i : ℕ) → i < n → getD now i 0 ≡ f (i / 16 * 768 + i % 16)
+  rest-is r now kept put rest i h = by (decLt i (16 * (n / 16)))
+    where
+      by : Dec (i < 16 * (n / 16)) → getD now i 0 ≡ f (i / 16 * 768 + i % 16)
+      by (yes l) = kept i l ∙ whole-is i h (omega arith)
+      by (no o) =
+          let l : ℕ = i - 16 * (n / 16) in
+          let e : 16 * (n / 16) + l ≡ i = omega arith in
+          let at : i / 16 * 768 + i % 16 ≡ n / 16 * 768 + (l / 16 * 768 + l % 16) = omega arith in
+          ap (λ k. getD now k 0) (sym e) ∙ put l (omega arith) (omega arith) ∙ rest l (omega arith) (subst P at (fine i h)) ∙ ap f (sym at)
 
 -- ---- all blocks: after j turns the bytes of the first j are there
 

@@ -25,6 +25,12 @@ groupSum t starts p n g i =
     chosen (i / 16) (lane t (getD starts (4 * g) 0 + p) n (i % 16)) (lane t (getD starts (4 * g + 1) 0 + p) n (i % 16))
     (lane t (getD starts (4 * g + 2) 0 + p) n (i % 16)) (lane t (getD starts (4 * g + 3) 0 + p) n (i % 16))
 
+-- s has the sums of the first g groups, and of c times 16 bytes of the next: of the n bytes of the sources from place p on
+pub record Summed (t starts : List ℕ) (p n g c : ℕ) (s : List ℕ) : Type 0 where
+  pub size : length s ≡ 12288
+  pub at : (u h i : ℕ) → 16 * u < n → h < 3 → i < 256 → 16 * h + u < 16 * g + c
+      → getD s (u * 768 + (h * 256 + i)) 0 ≡ groupSum t starts (p + 16 * u) (n - 16 * u) h i
+
 -- s has the sums of a tile, the n bytes of the sources from place p on: of 16 bytes after the other, of one group after the other
 pub record Prepared (t starts : List ℕ) (p n : ℕ) (s : List ℕ) : Type 0 where
   pub size : length s ≡ 12288

@@ -56,26 +56,40 @@ fn sixteen_plain(s: &[u8], x: u32, y: u32, z: u32, e: usize) -> [u8; 16]
     r
 }
 
-// Sixteen bytes, whose sums begin at e, into out from a on, as far as out goes. (Each way has its own put: where the two arrays meet, LLVM moves
-// them byte by byte.)
-fn put_sums(out: &mut [u8], a: usize, s: &[u8], x: u32, y: u32, z: u32, e: usize)
-    requires { ⌜ (a ≤ length (now out)) × (e + 768 ≤ length (now s)) ⌝ }
-    ensures { λ _. ⌜ (length (now (out .exit)) ≡ length (now (out .entry)))
-        × ((i : ℕ) → i < a → getD (now (out .exit)) i 0 ≡ getD (now (out .entry)) i 0)
-        × ((l : ℕ) → l < 16 → a + l < length (now (out .entry)) → FirstZero (now (s .entry)) (e + l)
-        → getD (now (out .exit)) (a + l) 0 ≡ highest (now (s .entry)) x y z (e + l) 8) ⌝ }
+// Sixteen bytes into out; their sums begin at e.
+fn put_sums(out: &mut [u8], s: &[u8], x: u32, y: u32, z: u32, e: usize)
+    requires { ⌜ (length (now out) ≡ 16) × (e + 768 ≤ length (now s)) ⌝ }
+    ensures { λ _. ⌜ (length (now (out .exit)) ≡ 16)
+        × ((l : ℕ) → l < 16 → FirstZero (now (s .entry)) (e + l) → getD (now (out .exit)) l 0 ≡ highest (now (s .entry)) x y z (e + l) 8) ⌝ }
 {
     if x < 16 {
         if y < 16 {
             if z < 16 {
                 let r = sixteen_plain(s, x, y, z, e);
-                lanes::put(out, a, r);
+                lanes::write(out, r);
                 return;
             }
         }
     }
     let r = sixteen(s, x, y, z, e);
-    lanes::put(out, a, r);
+    lanes::write(out, r);
+}
+
+// Out as far as it has whole sixteens; the sums of the first begin at e. (Fewer than sixteen bytes have a way of their own: where a loop puts now
+// sixteen, now fewer, LLVM makes a call of memcpy for each.)
+fn fill_whole(out: &mut [u8], s: &[u8], x: u32, y: u32, z: u32, e: usize)
+    requires { ⌜ (length (now out) ≤ 256) × (e + length (now out) / 16 * 768 ≤ length (now s)) × (length (now s) ≡ 12288) ⌝ }
+    ensures { λ _. ⌜ (length (now (out .exit)) ≡ length (now (out .entry)))
+        × ((i : ℕ) → i < length (now (out .entry)) / 16 * 16 → FirstZero (now (s .entry)) (e + (i / 16 * 768 + i % 16))
+        → getD (now (out .exit)) i 0 ≡ highest (now (s .entry)) x y z (e + (i / 16 * 768 + i % 16)) 8) ⌝ }
+{
+    let mut c = 0;
+    while c < out.len() / 16 {
+        let a = 16 * c;
+        let f = a + 16;
+        put_sums(&mut out[a..f], s, x, y, z, e + c * 768);
+        c += 1;
+    }
 }
 
 // One block's bytes, from the sums of a tile.
@@ -84,9 +98,11 @@ pub fn fill(out: &mut [u8], s: &[u8], x: u32, y: u32, z: u32)
     ensures { λ _. ⌜ (length (now (out .exit)) ≡ length (now (out .entry)))
         × ((i : ℕ) → i < length (now (out .entry)) → getD (now (out .exit)) i 0 ≡ highest (now (s .entry)) x y z (i / 16 * 768 + i % 16) 8) ⌝ }
 {
-    let mut c = 0;
-    while 16 * c < out.len() {
-        put_sums(out, 16 * c, s, x, y, z, c * 768);
-        c += 1;
+    fill_whole(out, s, x, y, z, 0);
+    let c = out.len() / 16;
+    if 16 * c < out.len() {
+        let mut r = [0u8; 16];
+        fill_whole(&mut r, s, x, y, z, c * 768);
+        lanes::put(out, 16 * c, r);
     }
 }

@@ -22,7 +22,7 @@ fn read_all(t: &[u8], a: usize) -> [u8; 16]
 }
 
 // The sixteen bytes into out.
-fn write_all(out: &mut [u8], bytes: [u8; 16])
+pub fn write(out: &mut [u8], bytes: [u8; 16])
     requires { ⌜ length (now out) ≡ 16 ⌝ }
     ensures { λ _. ⌜ now (out .exit) ≡ bytes ⌝ }
 {
@@ -61,7 +61,7 @@ pub fn put(out: &mut [u8], a: usize, bytes: [u8; 16])
         return;
     }
     let e = a + 16;
-    write_all(&mut out[a..e], bytes);
+    write(&mut out[a..e], bytes);
 }
 
 // At place 16 v of s the sum of those of the four that the bits of v choose, for v from 0 to 15.

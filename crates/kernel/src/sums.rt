@@ -3,9 +3,8 @@ ghost use mathlib.Core.Path.{_≡_};
 ghost use Prim.Native.Nat.{_+_, _-_, _≤_, _<_};
 ghost use lib.ListN.{length, getD};
 ghost use Rattle.basics.specs.Lists.{listOf};
-ghost use Rattle.blocks.specs.Blocks.{table};
 ghost use Rattle.kernel.specs.Lanes.{lane};
-ghost use Rattle.kernel.specs.Working.{Sources, Prepared, groupSum};
+ghost use Rattle.kernel.specs.Working.{Sources, Summed, Prepared, groupSum};
 use crate::lanes;
 
 // The n bytes of source q from place p on, but no more than 16.
@@ -29,17 +28,18 @@ fn group_sums(s: &mut [u8], t: &[u8], starts: &[usize; 12], p: usize, n: usize, 
     lanes::sums(s, w, x, y, z);
 }
 
-// The sums of the three groups, one after the other.
-fn chunk_sums(s: &mut [u8], t: &[u8], starts: &[usize; 12], p: usize, n: usize)
-    requires { ⌜ (length (now s) ≡ 768) × Sources (p + n) (now t) (now starts) ⌝ }
-    ensures { λ _. ⌜ now (s .exit) ≡ table 3 256 (λ g. groupSum (now (t .entry)) (now (starts .entry)) p n (g - 1)) ⌝ }
+// The sums of one group, of all n bytes from place p on. (One group at a time: twelve sources that lie a page apart are more than the cache holds
+// side by side.)
+fn tile_group(s: &mut [u8], t: &[u8], starts: &[usize; 12], p: usize, n: usize, g: usize)
+    requires { ⌜ (n ≤ 256) × (g < 3) × Sources (p + n) (now t) (now starts) × Summed (now t) (now starts) p n g 0 (now s) ⌝ }
+    ensures { λ _. ⌜ Summed (now (t .entry)) (now (starts .entry)) p n (g + 1) 0 (now (s .exit)) ⌝ }
 {
-    let mut g = 0;
-    while g < 3 {
-        let a = g * 256;
+    let mut c = 0;
+    while 16 * c < n {
+        let a = c * 768 + g * 256;
         let e = a + 256;
-        group_sums(&mut s[a..e], t, starts, p, n, g);
-        g += 1;
+        group_sums(&mut s[a..e], t, starts, p + 16 * c, n - 16 * c, g);
+        c += 1;
     }
 }
 
@@ -48,11 +48,9 @@ pub fn tile_sums(s: &mut [u8], t: &[u8], starts: &[usize; 12], p: usize, n: usiz
     requires { ⌜ (length (now s) ≡ 12288) × (n ≤ 256) × Sources (p + n) (now t) (now starts) ⌝ }
     ensures { λ _. ⌜ Prepared (now (t .entry)) (now (starts .entry)) p n (now (s .exit)) ⌝ }
 {
-    let mut c = 0;
-    while 16 * c < n {
-        let a = c * 768;
-        let e = a + 768;
-        chunk_sums(&mut s[a..e], t, starts, p + 16 * c, n - 16 * c);
-        c += 1;
+    let mut g = 0;
+    while g < 3 {
+        tile_group(s, t, starts, p, n, g);
+        g += 1;
     }
 }

@@ -11,6 +11,7 @@ use Rattle.entries.specs.declared.WriteId.{WriteId}
 use Rattle.entries.specs.Entries.{isIn}
 use Rattle.records.specs.declared.Sizes.{Sizes}
 use Rattle.records.specs.Node.{Node, isNorm}
+use Rattle.records.specs.Sizes.{nodeLimit}
 use Rattle.machine.specs.Stripe.{nodeAt}
 use Rattle.machine.specs.Rebuild.{f, atPosition, largest}
 
@@ -57,10 +58,10 @@ pub record TheLargest (z : Sizes) (nodes : List Node) (set : NodeSet) : Type 0 w
 
 -- `largest`, as Rebuild finds it among the candidates, is the set that the document takes
 abbrev pub PicksTheLargest : Type 0
-PicksTheLargest = (z : Sizes) (nodes : List Node) → length nodes ≡ z .n → z .n ≤ 18 → TheLargest z nodes (largest z nodes (z .n - z .k))
+PicksTheLargest = (z : Sizes) (nodes : List Node) → length nodes ≡ z .n → z .n ≤ nodeLimit → TheLargest z nodes (largest z nodes (z .n - z .k))
 
 -- and the document takes no other
 abbrev pub OneLargest : Type 0
 OneLargest =
-    (z : Sizes) (nodes : List Node) → length nodes ≡ z .n → z .n ≤ 18 → (set other : NodeSet) → TheLargest z nodes set → TheLargest z nodes other →
+    (z : Sizes) (nodes : List Node) → length nodes ≡ z .n → z .n ≤ nodeLimit → (set other : NodeSet) → TheLargest z nodes set → TheLargest z nodes other →
     (j : ℕ) → has set j ≡ has other j

@@ -6,7 +6,7 @@ ghost use Rattle.records.specs.Client.{NoRebuild, withRebuild, clientWithin};
 ghost use Rattle.records.specs.Node.{Node};
 ghost use Rattle.records.specs.NodeSteps as NodeSteps;
 ghost use Rattle.records.specs.NodeSteps.{heldAnswer};
-ghost use Rattle.records.specs.Sizes.{sizesWithin};
+ghost use Rattle.records.specs.Sizes.{nodeLimit, sizesWithin};
 ghost use Rattle.records.specs.View.{nodeOf, clientOf};
 ghost use Rattle.stripe.specs.Seen.{keep, expire};
 ghost use Rattle.rebuild.specs.Contracts.{Steps, entrance, notHeld, atOwn};
@@ -83,7 +83,7 @@ pub(crate) fn go_on(
     client: ClientRecord,
     step: NodeStep,
 ) -> Stepped
-    requires { ⌜ z .n ≤ 18 ⌝ }
+    requires { ⌜ z .n ≤ nodeLimit ⌝ }
     ensures { λ r. ⌜ ((after : Node → Node) → NodeSteps.Meets (heldAnswer c (nodeOf node)) (after (nodeOf node)) node step →
         Steps (atOwn after) z c seen node client r) ⌝ }
 {

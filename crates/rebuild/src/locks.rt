@@ -4,6 +4,7 @@ ghost use Prim.Native.Nat.{_+_, _≤_, _<_};
 ghost use Rattle.machine.specs.Rebuild as Rebuild;
 ghost use Rattle.records.specs.Client.{remembered};
 ghost use Rattle.records.specs.View.{oldLmodes, clientOf};
+ghost use Rattle.records.specs.Sizes.{nodeLimit};
 ghost use Rattle.rebuild.specs.Contracts.{own, Steps, Admitted, lockNext};
 use crate::Stepped;
 use crate::admission::entrance;
@@ -29,7 +30,7 @@ fn lock_node(
     x: u8,
     expired: NodeSet,
 ) -> Stepped
-    requires { ⌜ (z .n ≤ 18) × ((x < z .n) × ((remembered (clientOf client .rebuild) ≡ oldLmodes x expired) × (own client ≡ x + 1))) ⌝ }
+    requires { ⌜ (z .n ≤ nodeLimit) × ((x < z .n) × ((remembered (clientOf client .rebuild) ≡ oldLmodes x expired) × (own client ≡ x + 1))) ⌝ }
     ensures { λ r. ⌜ Steps lockNext z c seen node client r ⌝ }
 {
     let old = node.lmode;

@@ -12,6 +12,7 @@ use Rattle.rebuild.specs.declared.Picked.{Picked}
 use Rattle.records.specs.declared.ClientRecord.{ClientRecord}
 use Rattle.records.specs.declared.NodeRecord.{NodeRecord}
 use Rattle.records.specs.View.{clientOf}
+use Rattle.records.specs.Sizes.{nodeLimit}
 use Rattle.step.specs.Steps.{stripeWith}
 use Rattle.stripe.specs.Seen.{applied, keep}
 use Rattle.stripe.specs.View.{nodesOf}
@@ -33,7 +34,7 @@ allSeen t i node = record { len = t .len; nodes = record { items = set (t .nodes
 
 pub record AllTook (nodes : List NodeRecord) (n : ℕ) (t : AllTaken) : Type 0 where
   pub len : t .len ≡ length nodes
-  pub items : length nodes ≤ 18 → nodesOf (length nodes) (t .nodes) ≡ nodesIn nodes
+  pub items : length nodes ≤ nodeLimit → nodesOf (length nodes) (t .nodes) ≡ nodesIn nodes
 
 pub record AfterPick (s : Returned) (t : AllTaken) (y : TakenClient) (r : Picked) : Type 0 where
   pub answer-is : s .answer ≡ r .answer

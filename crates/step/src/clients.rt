@@ -6,6 +6,7 @@ ghost use Rattle.machine.specs.Stripe.{clientAt};
 ghost use Rattle.basics.specs.Lists.{setAt};
 ghost use Rattle.records.specs.Client.{freshClient};
 ghost use Rattle.records.specs.View.{clientOf};
+ghost use Rattle.records.specs.Sizes.{clientLimit};
 ghost use Rattle.step.specs.View.{clientsOf};
 use records::ClientRecord;
 use records::Sizes;
@@ -17,7 +18,7 @@ pub struct Clients {
 
 impl Clients {
     pub fn fresh() -> Self
-        ensures { λ r. ⌜ ((m : ℕ) → m ≤ 8 → clientsOf m r ≡ replicate m freshClient) ⌝ }
+        ensures { λ r. ⌜ ((m : ℕ) → m ≤ clientLimit → clientsOf m r ≡ replicate m freshClient) ⌝ }
     {
         let client = ClientRecord::fresh();
         let items = [client; Sizes::CLIENTS];
@@ -26,7 +27,7 @@ impl Clients {
 
     // The record of client c, or a fresh one where there is no such client.
     pub fn get(self, m: usize, c: u8) -> ClientRecord
-        requires { ⌜ m ≤ 8 ⌝ }
+        requires { ⌜ m ≤ clientLimit ⌝ }
         ensures { λ r. ⌜ clientOf r ≡ clientAt (clientsOf m self) c ⌝ }
     {
         let j = c as usize;
@@ -40,7 +41,7 @@ impl Clients {
     }
 
     pub fn set(mut self, m: usize, c: u8, client: ClientRecord) -> Self
-        requires { ⌜ m ≤ 8 ⌝ }
+        requires { ⌜ m ≤ clientLimit ⌝ }
         ensures { λ r. ⌜ clientsOf m r ≡ setAt (clientsOf m self) c (clientOf client) ⌝ }
     {
         let j = c as usize;

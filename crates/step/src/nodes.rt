@@ -6,13 +6,14 @@ ghost use Rattle.machine.specs.Stripe.{nodeAt};
 ghost use Rattle.basics.specs.Lists.{setAt};
 ghost use Rattle.records.specs.Node.{freshNode};
 ghost use Rattle.records.specs.View.{nodeOf};
+ghost use Rattle.records.specs.Sizes.{nodeLimit};
 ghost use Rattle.stripe.specs.View.{nodesOf};
 use records::NodeRecord;
 use records::Sizes;
 use stripe::Nodes;
 
 pub fn fresh() -> Nodes
-    ensures { λ r. ⌜ ((n : ℕ) → n ≤ 18 → nodesOf n r ≡ replicate n freshNode) ⌝ }
+    ensures { λ r. ⌜ ((n : ℕ) → n ≤ nodeLimit → nodesOf n r ≡ replicate n freshNode) ⌝ }
 {
     let node = NodeRecord::fresh();
     let items = [node; Sizes::NODES];
@@ -21,7 +22,7 @@ pub fn fresh() -> Nodes
 
 // The record of node j, or a failed one where there is no such node.
 pub fn get(nodes: Nodes, n: usize, j: usize) -> NodeRecord
-    requires { ⌜ n ≤ 18 ⌝ }
+    requires { ⌜ n ≤ nodeLimit ⌝ }
     ensures { λ r. ⌜ nodeOf r ≡ nodeAt (nodesOf n nodes) j ⌝ }
 {
     if j < 1 {
@@ -34,7 +35,7 @@ pub fn get(nodes: Nodes, n: usize, j: usize) -> NodeRecord
 }
 
 pub fn set(nodes: Nodes, n: usize, j: usize, node: NodeRecord) -> Nodes
-    requires { ⌜ n ≤ 18 ⌝ }
+    requires { ⌜ n ≤ nodeLimit ⌝ }
     ensures { λ r. ⌜ nodesOf n r ≡ setAt (nodesOf n nodes) j (nodeOf node) ⌝ }
 {
     if j < 1 {

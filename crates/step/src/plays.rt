@@ -5,7 +5,7 @@ ghost use mathlib.Core.Path.{_≡_};
 ghost use Prim.Native.Nat.{ℕ, _≤_};
 ghost use Rattle.calls.specs.Calls.{caller, looksAtAll};
 ghost use Rattle.basics.specs.Lists.{setAt};
-ghost use Rattle.records.specs.Sizes.{sizesWithin};
+ghost use Rattle.records.specs.Sizes.{clientLimit, nodeLimit, sizesWithin};
 ghost use Rattle.records.specs.View.{clientOf, nodeOf};
 ghost use Rattle.stripe.specs.Seen.{Sees, applied};
 ghost use Rattle.stripe.specs.View.{nodesOf};
@@ -38,7 +38,7 @@ fn see(z: Sizes, call: StepCall, nodes: Nodes) -> Seen
 
 // The stripe with the records that a call at node j handed back.
 fn put(z: Sizes, call: StepCall, j: usize, stripe: Stripe, r: Stepped) -> Stripe
-    requires { ⌜ (z .n ≤ 18) × (z .m ≤ 8) ⌝ }
+    requires { ⌜ (z .n ≤ nodeLimit) × (z .m ≤ clientLimit) ⌝ }
     ensures nodes { λ s. ⌜ nodesOf (z .n) (s .nodes) ≡ applied (r .change) (setAt (nodesOf (z .n) (stripe .nodes)) j (nodeOf (r .node))) ⌝ }
     ensures clients { λ s. ⌜ clientsOf (z .m) (s .clients) ≡ setAt (clientsOf (z .m) (stripe .clients)) (caller call) (clientOf (r .client)) ⌝ }
 {
@@ -109,7 +109,7 @@ fn read(z: Sizes, i: u8, stripe: Stripe, blocks: &[u8], shown: &mut [u8]) -> Ans
 
 // The stripe with what a pick of client c handed back.
 fn put_picked(z: Sizes, c: u8, stripe: Stripe, r: Picked) -> Stripe
-    requires { ⌜ (z .n ≤ 18) × (z .m ≤ 8) ⌝ }
+    requires { ⌜ (z .n ≤ nodeLimit) × (z .m ≤ clientLimit) ⌝ }
     ensures nodes { λ s. ⌜ nodesOf (z .n) (s .nodes) ≡ applied (r .change) (nodesOf (z .n) (stripe .nodes)) ⌝ }
     ensures clients { λ s. ⌜ clientsOf (z .m) (s .clients) ≡ setAt (clientsOf (z .m) (stripe .clients)) c (clientOf (r .client)) ⌝ }
 {

@@ -4,7 +4,7 @@ use mathlib.Core.List.{List, _++_, map}
 use Prim.Native.Nat.{ℕ, _≤_}
 use lib.ListN.{take, drop}
 use Rattle.code.specs.Decode.{has}
-use Rattle.entries.specs.Entries.{isOldIn}
+use Rattle.entries.specs.Entries.{entryLimit, isOldIn}
 use Rattle.records.specs.declared.NodeRecord.{NodeRecord}
 use Rattle.records.specs.Node.{Node, isNorm, isRecons, heldBy, heldAtL1, weakenedBy, expiredFor, nodeWithin}
 use Rattle.stripe.specs.declared.nodes.NodeTest.{NodeTest}
@@ -26,7 +26,7 @@ Readable (Outside z) x = Unit {0}
 Readable (NotHeld c) x = Unit {0}
 Readable (NotHeldAtL1 c) x = Unit {0}
 Readable Recons x = Unit {0}
-Readable (OldAtNorm id) x = x .entries .count ≤ 16
+Readable (OldAtNorm id) x = x .entries .count ≤ entryLimit
 Readable (Rebuilding j) x = Unit {0}
 
 abbrev pub changed : NodeChange → Node → Node

@@ -12,6 +12,7 @@ use Rattle.machine.specs.Rebuild.{f, atPosition, sameIds, besides}
 use Rattle.entries.specs.declared.WriteId.{WriteId}
 use Rattle.records.specs.declared.Sizes.{Sizes}
 use Rattle.records.specs.Node.{Node, isNorm, isRecons, isInit}
+use Rattle.records.specs.Sizes.{nodeLimit}
 use Rattle.stripe.specs.declared.nodes.Nodes.{Nodes}
 use Rattle.stripe.specs.declared.sets.RecentIds.{RecentIds}
 use Rattle.stripe.specs.declared.sets.Recents.{Recents}
@@ -38,6 +39,6 @@ abbrev pub idsAt : Recents → ℕ → RecentIds
 idsAt r i = getD (r .items) i blankIds
 
 pub record Knows (n : ℕ) (x : Nodes) (r : Recents) : Type 0 where
-  pub nodes : n ≤ 18
+  pub nodes : n ≤ nodeLimit
   pub counted : Counted n x
   pub ids : (i : ℕ) → i < n → recentOf (idsAt r i) ≡ f (nodesOf n x) (suc i)

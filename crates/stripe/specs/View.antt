@@ -3,6 +3,7 @@ use mathlib.Core.List.{List, []}
 use Prim.Native.Nat.{ℕ, suc, _≤_, _<_}
 use lib.ListN.{getD}
 use Rattle.basics.specs.Lists.{listOf}
+use Rattle.entries.specs.Entries.{entryLimit}
 use Rattle.entries.specs.declared.WriteId.{WriteId}
 use Rattle.entries.specs.View.{blankId}
 use Rattle.records.specs.declared.NodeRecord.{NodeRecord}
@@ -36,7 +37,7 @@ nodesOf n x = listOf n (λ i. nodeOf (recordAt x i))
 
 -- the entries of the n records are within their arrays
 pub record Counted (n : ℕ) (x : Nodes) : Type 0 where
-  pub few : (i : ℕ) → i < n → recordAt x i .entries .count ≤ 16
+  pub few : (i : ℕ) → i < n → recordAt x i .entries .count ≤ entryLimit
 
 -- a node's recent ids
 abbrev pub recentOf : RecentIds → List WriteId

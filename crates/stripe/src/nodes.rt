@@ -8,7 +8,7 @@ ghost use Rattle.basics.specs.Lists.{setAt, everyOf, someOf};
 ghost use Rattle.machine.specs.Rebuild.{restored, someRecons, countInit, largestEpoch, weakened};
 ghost use Rattle.records.specs.Node.{isInit, heldBy, heldAtL1, expiredFor, nodeWithin};
 ghost use Rattle.records.specs.View.{nodeOf, oldLmode, oldLmodes};
-ghost use Rattle.records.specs.Sizes.{sizesWithin};
+ghost use Rattle.records.specs.Sizes.{nodeLimit, sizesWithin};
 ghost use Rattle.stripe.specs.Seen.{Sees, applied};
 ghost use Rattle.stripe.specs.Nodes.{passes, Readable, changed, changedAfter};
 ghost use Rattle.stripe.specs.View.{recordAt, nodesOf};
@@ -73,7 +73,7 @@ impl NodeChange {
 
 // The number of INIT nodes, one node later.
 fn count_one(count: usize, node: NodeRecord) -> usize
-    requires { ⌜ count < 18 ⌝ }
+    requires { ⌜ count < nodeLimit ⌝ }
     ensures { λ r. ⌜ r ≡ cond (isInit (node .opmode)) (count + 1) count ⌝ }
 {
     let opmode = node.opmode;
@@ -97,14 +97,14 @@ fn old_lmode(was_exp: bool) -> Lmode
 
 impl Nodes {
     pub fn get(self, j: usize) -> NodeRecord
-        requires { ⌜ (1 ≤ j) × (j ≤ 18) ⌝ }
+        requires { ⌜ (1 ≤ j) × (j ≤ nodeLimit) ⌝ }
         ensures { λ r. ⌜ ((n : ℕ) → j ≤ n → nodeOf r ≡ nodeAt (nodesOf n self) j) ⌝ }
     {
         self.items[j - 1]
     }
 
     pub fn set(mut self, j: usize, node: NodeRecord) -> Self
-        requires { ⌜ (1 ≤ j) × (j ≤ 18) ⌝ }
+        requires { ⌜ (1 ≤ j) × (j ≤ nodeLimit) ⌝ }
         ensures { λ r. ⌜ ((n : ℕ) → nodesOf n r ≡ setAt (nodesOf n self) j (nodeOf node)) ⌝ }
     {
         self.items[j - 1] = node;
@@ -113,7 +113,7 @@ impl Nodes {
 
     // Whether some node passes the test.
     pub(crate) fn any(self, n: usize, test: NodeTest) -> bool
-        requires { ⌜ (n ≤ 18) × ((i : ℕ) → i < n → Readable test (recordAt self i)) ⌝ }
+        requires { ⌜ (n ≤ nodeLimit) × ((i : ℕ) → i < n → Readable test (recordAt self i)) ⌝ }
         ensures { λ r. ⌜ r ≡ someOf (passes test) (nodesOf n self) ⌝ }
     {
         let mut i = 0;
@@ -128,35 +128,35 @@ impl Nodes {
     }
 
     pub fn are_within(self, z: Sizes) -> bool
-        requires { ⌜ z .n ≤ 18 ⌝ }
+        requires { ⌜ z .n ≤ nodeLimit ⌝ }
         ensures { λ r. ⌜ r ≡ everyOf (nodeWithin z) (nodesOf (z .n) self) ⌝ }
     {
         !self.any(z.n, NodeTest::Outside(z))
     }
 
     pub fn all_held(self, n: usize, c: u8) -> bool
-        requires { ⌜ n ≤ 18 ⌝ }
+        requires { ⌜ n ≤ nodeLimit ⌝ }
         ensures { λ r. ⌜ r ≡ everyOf (heldBy c) (nodesOf n self) ⌝ }
     {
         !self.any(n, NodeTest::NotHeld(c))
     }
 
     pub fn all_held_at_l1(self, n: usize, c: u8) -> bool
-        requires { ⌜ n ≤ 18 ⌝ }
+        requires { ⌜ n ≤ nodeLimit ⌝ }
         ensures { λ r. ⌜ r ≡ everyOf (heldAtL1 c) (nodesOf n self) ⌝ }
     {
         !self.any(n, NodeTest::NotHeldAtL1(c))
     }
 
     pub fn some_recons(self, n: usize) -> bool
-        requires { ⌜ n ≤ 18 ⌝ }
+        requires { ⌜ n ≤ nodeLimit ⌝ }
         ensures { λ r. ⌜ r ≡ someRecons (nodesOf n self) ⌝ }
     {
         self.any(n, NodeTest::Recons)
     }
 
     pub fn count_init(self, n: usize) -> usize
-        requires { ⌜ n ≤ 18 ⌝ }
+        requires { ⌜ n ≤ nodeLimit ⌝ }
         ensures { λ r. ⌜ r ≡ countInit (nodesOf n self) ⌝ }
     {
         let mut count = 0;
@@ -170,7 +170,7 @@ impl Nodes {
     }
 
     pub fn largest_epoch(self, n: usize) -> Epoch
-        requires { ⌜ n ≤ 18 ⌝ }
+        requires { ⌜ n ≤ nodeLimit ⌝ }
         ensures { λ r. ⌜ r .0 ≡ largestEpoch (nodesOf n self) ⌝ }
     {
         let mut largest = Epoch(0);
@@ -203,7 +203,7 @@ impl Nodes {
 
     // The n nodes after a change.
     pub fn change(mut self, n: usize, change: Change) -> Self
-        requires { ⌜ n ≤ 18 ⌝ }
+        requires { ⌜ n ≤ nodeLimit ⌝ }
         ensures { λ r. ⌜ nodesOf n r ≡ applied change (nodesOf n self) ⌝ }
     {
         let end = change.end(n);
@@ -218,7 +218,7 @@ impl Nodes {
 
     // Each node after the first k changed.
     fn change_after(mut self, k: usize, n: usize, change: NodeChange) -> Self
-        requires { ⌜ (k ≤ n) × (n ≤ 18) ⌝ }
+        requires { ⌜ (k ≤ n) × (n ≤ nodeLimit) ⌝ }
         ensures { λ r. ⌜ nodesOf n r ≡ changedAfter k change (nodesOf n self) ⌝ }
     {
         let mut i = k;
@@ -231,14 +231,14 @@ impl Nodes {
     }
 
     pub fn expire(self, n: usize, c: u8) -> Self
-        requires { ⌜ n ≤ 18 ⌝ }
+        requires { ⌜ n ≤ nodeLimit ⌝ }
         ensures { λ r. ⌜ nodesOf n r ≡ map (expiredFor c) (nodesOf n self) ⌝ }
     {
         self.change_after(0, n, NodeChange::Expire(c))
     }
 
     pub fn weaken(self, z: Sizes, c: u8) -> Self
-        requires { ⌜ (z .k ≤ z .n) × (z .n ≤ 18) ⌝ }
+        requires { ⌜ (z .k ≤ z .n) × (z .n ≤ nodeLimit) ⌝ }
         ensures { λ r. ⌜ nodesOf (z .n) r ≡ weakened z c (nodesOf (z .n) self) ⌝ }
     {
         self.change_after(z.k, z.n, NodeChange::Weaken(c))
@@ -246,7 +246,7 @@ impl Nodes {
 
     // Of nodes 1 to count, those that c still holds get their old lmode: EXP if in was_exp, else UNL.
     pub fn restore(mut self, count: usize, c: u8, was_exp: NodeSet) -> Self
-        requires { ⌜ count ≤ 18 ⌝ }
+        requires { ⌜ count ≤ nodeLimit ⌝ }
         ensures { λ r. ⌜ ((n : ℕ) → nodesOf n r ≡ restored c (oldLmodes count «was_exp») (nodesOf n self)) ⌝ }
     {
         let mut i = 0;

@@ -9,10 +9,11 @@ ghost use Rattle.code.specs.View.{nodeSetOf};
 ghost use Rattle.machine.specs.Stripe.{nodeAt};
 ghost use Rattle.basics.specs.Lists.{someOf};
 ghost use Rattle.machine.specs.Rebuild.{oldSomewhere, recentIds, atPosition, sameIds, allData, besides, largest, resumed, pickedSet, neededSize};
-ghost use Rattle.entries.specs.Entries.{isRecent, isIn};
+ghost use Rattle.entries.specs.Entries.{entryLimit, isRecent, isIn};
 ghost use Rattle.entries.specs.View.{entryOf, entriesOf};
 ghost use Rattle.records.specs.Node.{isNorm};
 ghost use Rattle.records.specs.View.{nodeOf};
+ghost use Rattle.records.specs.Sizes.{nodeLimit};
 ghost use Rattle.stripe.specs.Sets.{fitsBeside, isResumed, larger, Knows};
 ghost use Rattle.stripe.specs.View.{recentOf, nodesOf, Counted};
 use crate::nodes::NodeTest;
@@ -55,7 +56,7 @@ impl RecentIds {
 
     // The list with one id more, if it is kept.
     fn offered(mut self, id: WriteId, kept: bool) -> Self
-        requires { ⌜ self .count < 16 ⌝ }
+        requires { ⌜ self .count < entryLimit ⌝ }
         ensures { λ r. ⌜ recentOf r ≡ recentOf self ++ cond kept (id ∷ []) [] ⌝ }
     {
         if kept {
@@ -67,7 +68,7 @@ impl RecentIds {
     }
 
     fn has(self, id: WriteId) -> bool
-        requires { ⌜ self .count ≤ 16 ⌝ }
+        requires { ⌜ self .count ≤ entryLimit ⌝ }
         ensures { λ r. ⌜ r ≡ isIn id (recentOf self) ⌝ }
     {
         let n = self.count;
@@ -84,7 +85,7 @@ impl RecentIds {
 
     // Whether some id is not among the others.
     fn any_besides(self, others: RecentIds) -> bool
-        requires { ⌜ (self .count ≤ 16) × (others .count ≤ 16) ⌝ }
+        requires { ⌜ (self .count ≤ entryLimit) × (others .count ≤ entryLimit) ⌝ }
         ensures { λ r. ⌜ r ≡ someOf (λ x. not (isIn x (recentOf others))) (recentOf self) ⌝ }
     {
         let n = self.count;
@@ -101,14 +102,14 @@ impl RecentIds {
 
     // Whether both lists have the same ids.
     fn same(self, others: RecentIds) -> bool
-        requires { ⌜ (self .count ≤ 16) × (others .count ≤ 16) ⌝ }
+        requires { ⌜ (self .count ≤ entryLimit) × (others .count ≤ entryLimit) ⌝ }
         ensures { λ r. ⌜ r ≡ sameIds (recentOf self) (recentOf others) ⌝ }
     {
         !self.any_besides(others) && !others.any_besides(self)
     }
 
     fn at_position(self, i: usize) -> Self
-        requires { ⌜ self .count ≤ 16 ⌝ }
+        requires { ⌜ self .count ≤ entryLimit ⌝ }
         ensures { λ r. ⌜ recentOf r ≡ atPosition i (recentOf self) ⌝ }
     {
         let n = self.count;
@@ -125,7 +126,7 @@ impl RecentIds {
 
 // Whether a node with its own recent ids fits beside a redundant member with theirs.
 fn fits(own: RecentIds, theirs: RecentIds, k: usize, j: usize) -> bool
-    requires { ⌜ (own .count ≤ 16) × (theirs .count ≤ 16) ⌝ }
+    requires { ⌜ (own .count ≤ entryLimit) × (theirs .count ≤ entryLimit) ⌝ }
     ensures { λ r. ⌜ r ≡ fitsBeside k j (recentOf own) (recentOf theirs) ⌝ }
 {
     if j <= k {
@@ -136,7 +137,7 @@ fn fits(own: RecentIds, theirs: RecentIds, k: usize, j: usize) -> bool
 }
 
 fn is_beside(node: NodeRecord, own: RecentIds, theirs: RecentIds, k: usize, j: usize) -> bool
-    requires { ⌜ (own .count ≤ 16) × (theirs .count ≤ 16) ⌝ }
+    requires { ⌜ (own .count ≤ entryLimit) × (theirs .count ≤ entryLimit) ⌝ }
     ensures { λ r. ⌜ r ≡ (isNorm (node .opmode) && fitsBeside k j (recentOf own) (recentOf theirs)) ⌝ }
 {
     let opmode = node.opmode;
@@ -145,7 +146,7 @@ fn is_beside(node: NodeRecord, own: RecentIds, theirs: RecentIds, k: usize, j: u
 
 impl Nodes {
     fn old_somewhere(self, n: usize, id: WriteId) -> bool
-        requires { ⌜ (n ≤ 18) × Counted n self ⌝ }
+        requires { ⌜ (n ≤ nodeLimit) × Counted n self ⌝ }
         ensures { λ r. ⌜ r ≡ oldSomewhere (nodesOf n self) id ⌝ }
     {
         self.any(n, NodeTest::OldAtNorm(id))
@@ -153,14 +154,14 @@ impl Nodes {
 
     // Whether the entry's id is among the recent ids of its node.
     fn counts(self, n: usize, e: Entry) -> bool
-        requires { ⌜ (n ≤ 18) × Counted n self ⌝ }
+        requires { ⌜ (n ≤ nodeLimit) × Counted n self ⌝ }
         ensures { λ r. ⌜ r ≡ (isRecent (entryOf e) && not (oldSomewhere (nodesOf n self) (entryOf e .id))) ⌝ }
     {
         e.is_recent() && !self.old_somewhere(n, e.id())
     }
 
     fn recent_ids(self, n: usize, entries: Entries) -> RecentIds
-        requires { ⌜ (n ≤ 18) × (Counted n self × (entries .count ≤ 16)) ⌝ }
+        requires { ⌜ (n ≤ nodeLimit) × (Counted n self × (entries .count ≤ entryLimit)) ⌝ }
         ensures { λ r. ⌜ recentOf r ≡ recentIds (nodesOf n self) (entriesOf entries) ⌝ }
     {
         let count = entries.count;
@@ -176,7 +177,7 @@ impl Nodes {
 
     // The recent ids of nodes 1 to n.
     fn recents(self, n: usize) -> Recents
-        requires { ⌜ (n ≤ 18) × Counted n self ⌝ }
+        requires { ⌜ (n ≤ nodeLimit) × Counted n self ⌝ }
         ensures { λ r. ⌜ Knows n self r ⌝ }
     {
         let none = RecentIds::none();
@@ -192,7 +193,7 @@ impl Nodes {
 
     // The largest consistent set with no redundant member.
     fn all_data(self, z: Sizes) -> NodeSet
-        requires { ⌜ (z .k ≤ z .n) × (z .n ≤ 18) ⌝ }
+        requires { ⌜ (z .k ≤ z .n) × (z .n ≤ nodeLimit) ⌝ }
         ensures { λ r. ⌜ nodeSetOf r ≡ allData z (nodesOf (z .n) self) ⌝ }
     {
         let k = z.k;
@@ -228,7 +229,7 @@ impl Nodes {
 
     // Whether an unfinished rebuild is resumed with node j.
     fn is_resumed(self, n: usize, j: usize) -> bool
-        requires { ⌜ (n ≤ 18) × ((1 ≤ j) × (j ≤ n)) ⌝ }
+        requires { ⌜ (n ≤ nodeLimit) × ((1 ≤ j) × (j ≤ n)) ⌝ }
         ensures { λ r. ⌜ r ≡ isResumed (nodesOf n self) j ⌝ }
     {
         let node = self.get(j);
@@ -242,7 +243,7 @@ impl Nodes {
 
     // The set of an unfinished rebuild.
     fn resumed(self, n: usize) -> NodeSet
-        requires { ⌜ n ≤ 18 ⌝ }
+        requires { ⌜ n ≤ nodeLimit ⌝ }
         ensures { λ r. ⌜ nodeSetOf r ≡ resumed (nodesOf n self) ⌝ }
     {
         let mut set = NodeSet::none();
@@ -286,7 +287,7 @@ impl Nodes {
     }
 
     pub fn picked_set(self, z: Sizes) -> NodeSet
-        requires { ⌜ (z .k ≤ z .n) × ((z .n ≤ 18) × Counted (z .n) self) ⌝ }
+        requires { ⌜ (z .k ≤ z .n) × ((z .n ≤ nodeLimit) × Counted (z .n) self) ⌝ }
         ensures { λ r. ⌜ nodeSetOf r ≡ pickedSet z (nodesOf (z .n) self) ⌝ }
     {
         if self.some_recons(z.n) {
@@ -297,7 +298,7 @@ impl Nodes {
     }
 
     pub fn needed_size(self, z: Sizes) -> usize
-        requires { ⌜ (z .n ≤ 18) × (z .k + z .failures ≤ z .n) ⌝ }
+        requires { ⌜ (z .n ≤ nodeLimit) × (z .k + z .failures ≤ z .n) ⌝ }
         ensures { λ r. ⌜ r ≡ neededSize z (nodesOf (z .n) self) ⌝ }
     {
         if self.some_recons(z.n) {

@@ -4,11 +4,12 @@ use mathlib.Core.Path.{_≡_}
 use Prim.Native.Nat.{ℕ, _*_, _≤_}
 use lib.ListN.{length}
 use Rattle.records.specs.declared.Sizes.{Sizes}
+use Rattle.records.specs.Sizes.{clientLimit, nodeLimit}
 
 -- no larger than the largest stripe
 pub record Within (z : Sizes) : Type 0 where
-  pub nodes : z .n ≤ 18
-  pub clients : z .m ≤ 8
+  pub nodes : z .n ≤ nodeLimit
+  pub clients : z .m ≤ clientLimit
   pub block : z .b ≤ 4096
 
 -- a table of n blocks

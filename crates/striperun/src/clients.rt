@@ -1,12 +1,13 @@
 // The client records.
 ghost use Prim.Native.Nat.{_≤_};
+ghost use Rattle.records.specs.Sizes.{clientLimit};
 use format::clients::put_client;
 use format::output::put_between;
 use step::Clients;
 
 // The clients one space apart.
 pub fn put_clients(out: &mut [u8], mut at: usize, m: usize, clients: Clients) -> usize
-    requires { ⌜ m ≤ 8 ⌝ }
+    requires { ⌜ m ≤ clientLimit ⌝ }
 {
     for i in 0..m {
         let client = clients.items[i];

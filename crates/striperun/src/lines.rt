@@ -2,6 +2,7 @@
 ghost use mathlib.Core.Path.{_≡_};
 ghost use Prim.Native.Nat.{_*_, _≤_};
 ghost use Rattle.striperun.specs.Tables.{Within, Tables};
+ghost use Rattle.records.specs.Sizes.{nodeLimit};
 use super::input::Input;
 use super::input::TURNS;
 use super::input::Taken;
@@ -149,7 +150,7 @@ fn play_lent(
 }
 
 fn table_length(blocks: usize, b: usize) -> usize
-    requires { ⌜ (blocks ≤ 18) × (b ≤ 4096) ⌝ }
+    requires { ⌜ (blocks ≤ nodeLimit) × (b ≤ 4096) ⌝ }
     ensures { λ r. ⌜ (r ≡ blocks * b) × (r ≤ blocks * 4096) ⌝ }
 {
     blocks * b

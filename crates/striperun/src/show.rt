@@ -1,6 +1,7 @@
 // What is printed of a call: `ANSWER RETURNED | STATE`.
 ghost use Prim.Native.Nat.{_≤_};
 ghost use Rattle.striperun.specs.Tables.{Tables};
+ghost use Rattle.records.specs.Sizes.{clientLimit};
 use super::clients::put_clients;
 use super::nodes::put_nodes;
 use calls::Answer;
@@ -77,7 +78,7 @@ fn put_finding(out: &mut [u8], at: usize, finding: Finding) -> usize {
 
 // What is returned with the acceptance of a call that has no word of its own.
 fn put_accepted(out: &mut [u8], at: usize, m: usize, line: Line, stripe: Stripe) -> usize
-    requires { ⌜ m ≤ 8 ⌝ }
+    requires { ⌜ m ≤ clientLimit ⌝ }
 {
     let Line::Play(call, _) = line else {
         return put(out, at, b'-');
@@ -98,7 +99,7 @@ fn put_returned(
     stripe: Stripe,
     shown: &[u8],
 ) -> usize
-    requires { ⌜ m ≤ 8 ⌝ }
+    requires { ⌜ m ≤ clientLimit ⌝ }
 {
     match answer {
         Answer::Accepted => put_accepted(out, at, m, line, stripe),
@@ -121,7 +122,7 @@ fn put_answer(
     stripe: Stripe,
     shown: &[u8],
 ) -> usize
-    requires { ⌜ m ≤ 8 ⌝ }
+    requires { ⌜ m ≤ clientLimit ⌝ }
 {
     at = put_number_and(out, at, answer.number() as u64, b' ');
     at = put_returned(out, at, m, line, answer, stripe, shown);

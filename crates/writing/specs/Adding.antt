@@ -4,6 +4,7 @@ use mathlib.Core.List.{List}
 use mathlib.Core.Path.{_≡_}
 use Prim.Native.Nat.{ℕ, _+_, _-_, _*_, _≤_, _<_}
 use lib.ListN.{length}
+use Rattle.entries.specs.Entries.{finishedLimit, entryLimit}
 use Rattle.records.specs.declared.Sizes.{Sizes}
 use Rattle.records.specs.declared.Write.{Write}
 use Rattle.records.specs.declared.Hand.the-variants.{Holding}
@@ -21,8 +22,8 @@ addWithin z l = sizesWithin z && (recordsFit z l && tablesFit z l)
 pub record Ready (z : Sizes) (c j : ℕ) (write : Write) (node : NodeRecord) (client : ClientRecord) (blocks differences : List ℕ) : Type 0 where
   pub held : client .hand ≡ Holding write
   pub nodes : z .k ≤ z .n
-  pub entries : node .entries .count ≤ 16
-  pub room : client .finished .count < 8
+  pub entries : node .entries .count ≤ entryLimit
+  pub room : client .finished .count < finishedLimit
   pub position : 1 ≤ write .id .position
   pub node-first : 1 ≤ j
   pub block-there : (j - 1) * z .b + z .b ≤ length blocks

@@ -10,6 +10,7 @@ ghost use Rattle.blocks.specs.Blocks.{block, setBlock, addTimes};
 ghost use Rattle.code.specs.Code.{coefficient};
 ghost use Rattle.code.specs.Decode.{has, each, including};
 ghost use Rattle.code.specs.View.{nodeSetOf};
+ghost use Rattle.entries.specs.Entries.{finishedLimit};
 ghost use Rattle.records.specs.Client.{withHand, finishedWrite, clientWithin};
 ghost use Rattle.records.specs.Node.{nodeWithin};
 ghost use Rattle.records.specs.Sizes.{sizesWithin, isRedundant, isClient};
@@ -78,7 +79,7 @@ fn is_complete(z: Sizes, i: u8, done: NodeSet) -> bool
 
 // Node j joins the nodes done; a write that is complete then leaves the hand, and its id joins the finished list.
 fn join(z: Sizes, j: u8, write: Write, client: ClientRecord) -> OfClient
-    requires { ⌜ (z .k ≤ z .n) × (client .finished .count < 8) ⌝ }
+    requires { ⌜ (z .k ≤ z .n) × (client .finished .count < finishedLimit) ⌝ }
     ensures answer { λ r. ⌜ r .answer ≡ cond (isComplete z (write .id .position) (including j (nodeSetOf (write .done)))) Answer.Done Answer.Added ⌝ }
     ensures client { λ r. ⌜ clientOf (r .client) ≡ cond (isComplete z (write .id .position) (including j (nodeSetOf (write .done))))
         (finishedWrite (write .id) (clientOf client))

@@ -5,6 +5,7 @@ ghost use mathlib.Core.Path.{_≡_};
 ghost use Prim.Native.Nat.{ℕ, _≤_};
 ghost use Rattle.calls.specs.Answers.{Meets, local};
 ghost use Rattle.machine.specs.Writing;
+ghost use Rattle.entries.specs.Entries.{entryLimit};
 ghost use Rattle.records.specs.Node.{Node};
 ghost use Rattle.records.specs.Sizes.{isNode, isClient};
 ghost use Rattle.records.specs.View.{nodeOf, clientOf};
@@ -29,7 +30,7 @@ fn is_in_range(z: Sizes, c: u8, j: u8) -> bool
 
 // By what node j tells of the write in hand, if the write is done there.
 fn check_write(j: u8, write: Write, node: NodeRecord, client: ClientRecord) -> OfClient
-    requires { ⌜ (client .hand ≡ Hand.Holding write) × (node .entries .count ≤ 16) ⌝ }
+    requires { ⌜ (client .hand ≡ Hand.Holding write) × (node .entries .count ≤ entryLimit) ⌝ }
     ensures { λ r. ⌜ ((blocks differences : List ℕ) →
         Meets (Writing.checkWrite j (clientOf client .hand) (local (nodeOf node) (clientOf client) blocks differences))
         (r .answer) [] (local (nodeOf node) (clientOf (r .client)) blocks differences) (r .client ≡ client)) ⌝ }

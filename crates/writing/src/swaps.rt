@@ -7,7 +7,7 @@ ghost use lib.Dec.{eqb, leb};
 ghost use lib.ListN.{length};
 ghost use Rattle.blocks.specs.Blocks.{block, setBlock, difference};
 ghost use Rattle.code.specs.Decode.{noNodes, including};
-ghost use Rattle.entries.specs.Entries.{lastRecent, writeLimit};
+ghost use Rattle.entries.specs.Entries.{entryLimit, lastRecent, writeLimit};
 ghost use Rattle.records.specs.Client.{began, hasWrite, clientWithin};
 ghost use Rattle.records.specs.Node.{nodeWithin};
 ghost use Rattle.records.specs.Sizes.{sizesWithin, isPosition, isClient};
@@ -82,7 +82,7 @@ fn next_id(c: u8, i: u8, client: ClientRecord) -> WriteId
 
 // The client with the write in hand, by its node's record before the swap.
 fn begin(id: WriteId, node: NodeRecord, client: ClientRecord) -> ClientRecord
-    requires { ⌜ (node .entries .count ≤ 16) × (client .next .0 < writeLimit) ⌝ }
+    requires { ⌜ (node .entries .count ≤ entryLimit) × (client .next .0 < writeLimit) ⌝ }
     ensures { λ r. ⌜ clientOf r ≡ began
         (record { id = id; previous = lastRecent (nodeOf node .entries); epoch = node .epoch; done = including (id .position) noNodes })
         (clientOf client) ⌝ }

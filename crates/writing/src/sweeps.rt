@@ -6,6 +6,7 @@ ghost use Prim.Native.Nat.{ℕ, _≤_};
 ghost use Rattle.calls.specs.Answers.{Meets, local};
 ghost use Rattle.machine.specs.Writing;
 ghost use Rattle.machine.specs.Writing.{sweptEntries};
+ghost use Rattle.entries.specs.Entries.{entryLimit, finishedLimit};
 ghost use Rattle.records.specs.Client.{clientWithin};
 ghost use Rattle.records.specs.Node.{withEntries, nodeWithin};
 ghost use Rattle.records.specs.NodeSteps;
@@ -25,7 +26,7 @@ use records::Sizes;
 
 // The node's step, by the half that the round is in.
 fn sweep_entries(z: Sizes, node: NodeRecord, client: ClientRecord) -> NodeStep
-    requires { ⌜ (node .entries .count ≤ 16) × (client .moved .count ≤ 8) × (client .finished .count ≤ 8) ⌝ }
+    requires { ⌜ (node .entries .count ≤ entryLimit) × (client .moved .count ≤ finishedLimit) × (client .finished .count ≤ finishedLimit) ⌝ }
     ensures { λ r. ⌜ NodeSteps.Meets (sweepAnswer (nodeOf node))
         (withEntries (nodeOf node) (sweptEntries z (clientOf client) (nodeOf node .entries))) node r ⌝ }
 {

@@ -1,53 +1,51 @@
--- `kernel::bits::fill` meets its contract: after c turns the first 16 times c bytes are there. Assumes nothing.
-use mathlib.Core.Path.{_≡_, refl, _∙_}
-use Prim.Native.Nat.{_≤_, _<_, _+_, _-_, _*_}
+-- `kernel::bits::fill` meets its contract: whole sixteens, and then the rest. Assumes nothing.
+use mathlib.Core.Path.{_∙_}
 use native.Mathlib.Omega.{arith}
 use lib.ListN.{length}
-use Rattle.kernel.specs.Working.{highest}
-use Rattle.kernel.proofs.Highest.{lane-zero}
-use Rattle.kernel.proofs.Tiles.{Bytewise, bytewise-turn}
+use Rattle.kernel.specs.Working.{FirstZero, highest}
+use Rattle.kernel.proofs.Tiles.{whole-is, rest-is}
 use borrow.Author.Needs.{needs}
 use Rattle.kernel.proofs.bits.fill.Statement.{statement}
 use Rattle.kernel.proofs.bits.fill.Tie as tie
 
-abbrev Inv-loop : tie.InvT-loop
-Inv-loop out₀ s x y z c₀ out c = (16 * c < length out₀ + 16) × (length out ≡ length out₀) × Bytewise (λ i. highest s x y z i 8) (length out₀) (16 * c) out
-
-abbrev μ-loop : tie.MeasureT-loop
-μ-loop out₀ s x y z c₀ out c = length out₀ - 16 * c
-
-loop-holds : tie.Need-loop-holds Inv-loop μ-loop
-loop-holds c = (omega arith, refl, λ i l h. absurd (omega arith))
-
-loop-again : tie.Need-loop-again Inv-loop μ-loop
-loop-again c =
+returns : tie.Need-returns
+returns c =
     let at-put = c .before .before in
-    let at-loop = at-put .before .before .before in
-    let args = at-loop .before .before .before .args in
-    let zeros = at-loop .before .before .before .pre in
-    let put = at-put .put-sums .ensures in (
-      omega arith,
-      put .0 ∙ at-loop .loop .inv .1,
-      bytewise-turn (λ i. highest (args .s .now) (args .x) (args .y) (args .z) i 8) _ (at-loop .loop .c) (at-loop .loop .out) (at-put .put-sums .last .0) (at-loop .loop .inv .2) (put .1)
-          (λ l h k. put .2 l h (omega arith) (lane-zero (length (args .out .now)) (args .s .now) (zeros .2) (at-loop .loop .c) l h k)),
+    let at-rest = at-put .before .before .before in
+    let at-whole = at-rest .before .before .before .before .before in
+    let start = at-whole .before .before .before .before in
+    let args = start .args in
+    let whole = at-whole .fill-whole .ensures in
+    let put = at-put .put .ensures in (
+      put .0 ∙ whole .0,
+      λ i h. rest-is (FirstZero (args .s .now)) (λ k. highest (args .s .now) (args .x) (args .y) (args .z) k 8) (length (at-whole .fill-whole .last .0))
+          (λ i h. start .pre .2 .at i (omega arith)) (at-whole .fill-whole .last .0) (λ i h. whole .1 i (omega arith)) (at-rest .fill-whole2 .last .0) (at-put .put .last .0) (put .1) (put .2)
+          (λ l h. at-rest .fill-whole2 .ensures .1 l (omega arith)) i (omega arith),
     )
 
-returns : tie.Need-returns Inv-loop μ-loop
-returns c = (c .before .loop .inv .1, λ i h. c .before .loop .inv .2 i (omega arith) h)
+returns-2 : tie.Need-returns-2
+returns-2 c =
+    let at-whole = c .before .before .before in
+    let start = at-whole .before .before .before .before in
+    let args = start .args in
+    let whole = at-whole .fill-whole .ensures in (
+      whole .0,
+      λ i h. whole-is (FirstZero (args .s .now)) (λ k. highest (args .s .now) (args .x) (args .y) (args .z) k 8) (length (args .out .now))
+          (λ i h. start .pre .2 .at i h) (at-whole .fill-whole .last .0) (whole .1) i h (omega arith),
+    )
 
 pub fill-spec : {M : Type 1} → statement M
 fill-spec =
     tie.close
     (tie.spec
-    Inv-loop
-    μ-loop
-    loop-holds
+    (λ c κs. search needs)
     (λ c. search needs)
     (λ c. search needs)
     (λ c. search needs)
     (λ c κs. search needs)
     (λ c. search needs)
+    (λ c κs. search needs)
     (λ c. search needs)
-    loop-again
+    returns
     (λ c. search needs)
-    returns)
+    returns-2)

@@ -6,7 +6,7 @@ use lib.ListN.{length}
 use lib.Seq.{length-take-le, take-all}
 use Rattle.blocks.specs.Blocks.{setPart}
 use Rattle.blocks.proofs.Parts.{lent-length}
-use Rattle.kernel.proofs.Tiles.{put-is}
+use Rattle.kernel.proofs.Sixteen.{put-is}
 use borrow.Author.Needs.{needs}
 use Rattle.kernel.proofs.lanes.put.Statement.{statement}
 use Rattle.kernel.proofs.lanes.put.Tie as tie
@@ -28,15 +28,15 @@ returns c =
     let out = args .out .now in
     put-is (args .a) (length out - args .a) _ _ out (omega arith) (at-copy .copy .ensures) (omega arith) (λ l h i. omega arith)
 
-write-all-requires : tie.Need-write-all-requires
-write-all-requires c κs = let args = c .before .before .before .args in lent-length (args .a) 16 (args .out .now) (omega arith)
+write-requires : tie.Need-write-requires
+write-requires c κs = let args = c .before .before .before .args in lent-length (args .a) 16 (args .out .now) (omega arith)
 
 returns-2 : tie.Need-returns-2
 unfolding setPart
 returns-2 c =
     let at-copy = c .before .before in
     let args = c .before .before .before .before .before .before .args in
-    put-is (args .a) 16 _ (args .t3) (args .out .now) (omega arith) (at-copy .write-all .ensures ∙ sym (take-all 16 (args .t3) (omega arith))) (omega arith) (λ l h i. omega arith)
+    put-is (args .a) 16 _ (args .t3) (args .out .now) (omega arith) (at-copy .write .ensures ∙ sym (take-all 16 (args .t3) (omega arith))) (omega arith) (λ l h i. omega arith)
 
 pub put-spec : {M : Type 1} → statement M
 put-spec =
@@ -56,6 +56,6 @@ put-spec =
     (λ c. search needs)
     (λ c. search needs)
     (λ c. search needs)
-    write-all-requires
+    write-requires
     (λ c. search needs)
     returns-2)

@@ -1,11 +1,11 @@
--- `kernel::lanes::write_all` meets its contract: after i turns the first i bytes are there. Assumes nothing.
+-- `kernel::lanes::write` meets its contract: after i turns the first i bytes are there. Assumes nothing.
 use mathlib.Core.Path.{refl}
 use Prim.Native.Nat.{_≤_, _-_}
 use native.Mathlib.Omega.{arith}
 use Rattle.blocks.proofs.Fill.{Filled, filled-none, filled-turn, filled-all}
 use borrow.Author.Needs.{needs}
-use Rattle.kernel.proofs.lanes.write_all.Statement.{statement}
-use Rattle.kernel.proofs.lanes.write_all.Tie as tie
+use Rattle.kernel.proofs.lanes.write.Statement.{statement}
+use Rattle.kernel.proofs.lanes.write.Tie as tie
 
 abbrev Inv-loop : tie.InvT-loop
 Inv-loop out₀ bytes i₀ out i = (i ≤ 16) × Filled i bytes out₀ out
@@ -22,8 +22,8 @@ loop-again c = (search needs, filled-turn _ _ _ _ (omega arith) (c .before .loop
 returns : tie.Need-returns Inv-loop μ-loop
 returns c = filled-all _ _ _ _ (omega arith) (c .before .loop .inv .1) (omega arith)
 
-pub write-all-spec : {M : Type 1} → statement M
-write-all-spec =
+pub write-spec : {M : Type 1} → statement M
+write-spec =
     tie.close
     (tie.spec
     Inv-loop
