@@ -4,6 +4,7 @@
 -- others in files of their own names. Assumes nothing.
 use mathlib.Core.Path.{_≡_, refl, sym, subst}
 use mathlib.Core.Bool.{Bool, true, false, cond}
+use mathlib.Core.Option.{Option, none, some}
 use Prim.Native.Nat.{ℕ, _*_}
 use native.Mathlib.Omega.{arith}
 use lib.Dec.{eqb}
@@ -15,6 +16,7 @@ use Rattle.records.specs.declared.Refusal.{Refusal}
 use Rattle.records.specs.Refusals.{numberOf}
 use Rattle.records.proofs.Refusals.{from-one}
 use Rattle.machine.specs.Stripe.{Stripe, Answer, number, Outcome, answered, refused, guard, Local, Whole, atNode, putNode, whole, putWhole}
+use Rattle.machine.specs.Writing.{unless}
 use Rattle.machine.specs.Calls.{Call}
 use Rattle.machine.specs.History.{Kind, SwapInto, AddBy, PickBy, SettleBy, Failure, Other, kind, isDone}
 use Rattle.machine.proofs.Ledger as Ledger
@@ -76,6 +78,11 @@ module _ (z : Sizes) (h : Ledger Block) where
     -- an accepted call that leaves all as it was, and of which the ledger is told nothing
     pub at-same : (j c : ℕ) (a : Answer) → ((b : ℕ → Block) → note (ops z) h (entry z x a) b ≡ h) → KeptAt j c (answered a (atNode j c s))
     at-same j c a quiet = subst (λ t. Kept z h x (answered a t)) (sym (put-back j c s)) (record { good = rw (quiet (columns z s .block)) g; fits = f })
+
+    pub at-unless : (j c : ℕ) (tests : Option Refusal) (effect : Outcome Local) → (tests ≡ none → KeptAt j c effect) →
+        KeptAt j c (unless tests (atNode j c s) effect)
+    at-unless j c none effect k = k refl
+    at-unless j c (some why) effect k = at-refused j c why
 
     -- calls by client c on the whole stripe
     abbrev pub KeptWhole : ℕ → Outcome Whole → Type 0

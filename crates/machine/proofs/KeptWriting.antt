@@ -1,6 +1,6 @@
 -- The calls of specs/Writing keep the invariant and the shapes of the tables. Assumes nothing.
 use mathlib.Core.Path.{_≡_, refl, sym, ap, subst, _∙_}
-use mathlib.Core.Bool.{Bool, true, false, _&&_, _||_, not}
+use mathlib.Core.Bool.{Bool, true, false, cond, _&&_, _||_, not}
 use mathlib.Core.List.{List}
 use mathlib.Core.Option.{Option, none, some}
 use Prim.Native.Nat.{ℕ, _+_, _*_, _≤_, _<_}
@@ -12,16 +12,14 @@ use borrow.Author.Tests.{leb-true, ltb-true, ltb-false, eqb-true, not-true, not-
 use Rattle.blocks.specs.Blocks.{block, setBlock, difference, addTimes, Bytes}
 use Rattle.code.specs.Code.{coefficient}
 use Rattle.code.specs.Decode.{has, including}
-use Rattle.entries.specs.declared.Previous.{Previous}
-use Rattle.entries.specs.declared.Previous.the-variants.{Nothing, Id}
 use Rattle.entries.specs.Entries.{Entry, enter, isListed, isRecentIn, previousRecent}
 use Rattle.records.specs.declared.Sizes.{Sizes}
 use Rattle.records.specs.declared.Refusal.{Refusal}
 use Rattle.records.specs.Sizes.{sizesWithin, isClient, isPosition, isNode, isRedundant}
-use Rattle.records.specs.Node.{Node, withEntries, failedNode, nodeWithin}
+use Rattle.records.specs.Node.{Node, entered, withEntries, failedNode, nodeWithin}
 use Rattle.records.specs.Node as Node
 use Rattle.records.specs.Client.{Client, Write, began, finishedWrite, withHand, sweptOn, clientWithin}
-use Rattle.machine.specs.Stripe.{Stripe, replacing, Answer, Accepted, CheckInit, CheckGc, NoChange, Outcome, answered, guard, Local, nodeAt, clientAt, atNode, putNode, blocksFit, differencesFit}
+use Rattle.machine.specs.Stripe.{Stripe, replacing, Answer, Accepted, Added, Done, CheckInit, CheckGc, NoChange, Outcome, answered, guard, Local, nodeAt, clientAt, atNode, putNode, blocksFit, differencesFit}
 use Rattle.basics.specs.Lists.{setAt}
 use Rattle.machine.specs.Calls.{Call, step}
 use Rattle.machine.specs.Calls as Calls
@@ -35,9 +33,10 @@ use Rattle.machine.proofs.Frame.{norm-live}
 use Rattle.machine.proofs.Bytes.{Block, view, blockOf, ops}
 use Rattle.machine.proofs.View.{columns, withClient, withNodes, withClients, set-same, put-node, put-client, put-back, upd-keep, setAt-length, unl-is, l0-is}
 use Rattle.machine.proofs.Tables.{put-block, length-put, bytes-put, bytes-block, length-block, bytes-difference, length-difference, view-difference, bytes-add, length-add, view-add, block-view}
-use Rattle.machine.proofs.Kept.{Fits, Kept, entry, KeptAt, at-refused, at-guard, at-same}
+use Rattle.machine.proofs.Tests.{swap-passes, AddPasses, add-passes, add-empty}
+use Rattle.machine.proofs.Kept.{Fits, Kept, entry, KeptAt, at-refused, at-guard, at-unless, at-same}
 use Rattle.machine.proofs.Sets.{each-at}
-use Rattle.machine.proofs.Writing.Add.{previousListed, MayAdd, addedTo, add-more-good, add-done-good}
+use Rattle.machine.proofs.Writing.Add.{MayAdd, addedTo, add-more-good, add-done-good}
 use Rattle.machine.proofs.Writing.Check.{drop-good, check-init-good, check-gc-good}
 use Rattle.machine.proofs.Writing.Sweep.{relisted, discard-good, mark-good, empty-finished-good}
 use Rattle.machine.proofs.Writing.Swap.{newId, newWrite, swapped, swap-good}
@@ -184,12 +183,12 @@ module _ (z : Sizes) (L : Laws (ops z)) (h : Ledger Block) (s : Stripe) (g : Goo
     pub swap-kept : Kept z h swap (step z swap s)
     unfolding step Writing.swap
     swap-kept =
-        tested swap i c _ _ _ (λ r1. tested swap i c _ _ _ (λ r2. tested swap i c _ _ _ (λ r3.
-        tested swap i c _ _ _ (λ r4. tested swap i c _ _ _ (λ r7. tested swap i c _ _ _ (λ r8.
+        tested swap i c _ _ _ (λ r1. at-unless z h s g f swap i c _ _ (λ e.
+        let passes = swap-passes z c i (nodeOf i) (clientOf c) e in
         let fit = and-both (nodeWithin z (nodeOf i) && clientWithin z (clientOf c)) _ (and-both (sizesWithin z) _ (not-false _ r1) .1) .1 in
         let many = and-both (blocksFit z (s .blocks) && differencesFit z (s .differences)) _ fit .1 in
-        let (client, position) = and-both (isClient z c) (isPosition z i) (not-false _ r2) in
-        swap-accepted (within client) (within position) (eqb-true _ _ many) (not-false _ r4)))))))
+        let (client, position) = and-both (isClient z c) (isPosition z i) (passes .range) in
+        swap-accepted (within client) (within position) (eqb-true _ _ many) (passes .free)))
 
   ---- add
   module _ (c j : ℕ) where
@@ -219,9 +218,18 @@ module _ (z : Sizes) (L : Laws (ops z)) (h : Ledger Block) (s : Stripe) (g : Goo
       sum-sized : Sized (z .b) (addTimes factor old change)
       sum-sized = record { many = length-add factor old change ∙ old-sized .many; bytes = bytes-add factor old change (old-sized .bytes) (change-sized .bytes) }
 
-      -- y is the client's record then
+      -- what it leaves, where y is the client's record then
+      abbrev leaves : Client → Local
+      leaves y =
+          record {
+            node = entered (w .id) (nodeOf j);
+            client = y;
+            blocks = setBlock (z .b) j (addTimes factor old change) (s .blocks);
+            differences = s .differences;
+          }
+
       add-seen : (y : Client) → y .rebuild ≡ C .phase c → y .next .0 ≡ C .next c →
-          columns z (putNode j c (Writing.addedTo z c j w y (atNode j c s)) s) ≡
+          columns z (putNode j c (leaves y) s) ≡
           setHands (upd (C .hand) c (y .hand)) (setFinished (upd (C .finished) c (y .finished)) (addedTo (ops z) C c j w))
       add-seen y rebuild next =
           put-left j c (enter (w .id) (C .entries j)) y (setBlock (z .b) j (addTimes factor old change) (s .blocks)) (s .differences) node client rebuild
@@ -234,70 +242,57 @@ module _ (z : Sizes) (L : Laws (ops z)) (h : Ledger Block) (s : Stripe) (g : Goo
             block-view (z .b) (s .differences) c (client .0),
           )
 
-      add-fits : (y : Client) → Fits z (putNode j c (Writing.addedTo z c j w y (atNode j c s)) s)
-      add-fits y =
-          put-fits j c (Writing.addedTo z c j w y (atNode j c s))
-          (put-sized (z .b) (z .n) j (s .blocks) blocks-sized node (addTimes factor old change) sum-sized) differences-sized
+      add-fits : (y : Client) → Fits z (putNode j c (leaves y) s)
+      add-fits y = put-fits j c (leaves y) (put-sized (z .b) (z .n) j (s .blocks) blocks-sized node (addTimes factor old change) sum-sized) differences-sized
 
       complete : Writing.isComplete z (w .id .position) (including j (w .done)) ≡ true → (m : ℕ) → z .k < m → m ≤ z .n → has (including j (w .done)) m ≡ true
       complete e m a b =
           let (own, all) = and-both (has (including j (w .done)) (w .id .position)) _ e in
           rw (lt-leb m (z .k) a) at (each-at (z .n) (λ m. leb m (z .k) || has (including j (w .done)) m) all m (omega arith) b)
 
-      add-entered : After add j c (Writing.addEnter z c j w (atNode j c s))
-      unfolding Writing.addEnter
-      add-entered =
-          tested add j c _ _ _ (λ r7. cond-ind (After add j c) (Writing.isComplete z (w .id .position) (including j (w .done))) _ _
-          (λ e. record {
+      abbrev w' : Write
+      w' = Writing.withDone w (including j (w .done))
+
+      add-accepted : (b : Bool) → Writing.completes z j w ≡ b →
+          After add j c (answered (cond b Done Added) (leaves (cond b (finishedWrite (w .id) (clientOf c)) (withHand (some w') (clientOf c)))))
+      add-accepted true e =
+          record {
             good = rw (add-seen (finishedWrite (w .id) (clientOf c)) refl refl) (add-done-good (ops z) L h C c j w g may (complete e));
             fits = add-fits (finishedWrite (w .id) (clientOf c));
-          })
-          (λ e. record {
+          }
+      add-accepted false e =
+          record {
             good = rw (add-seen (withHand (some w') (clientOf c)) refl refl, upd-keep (C .finished) c) (add-more-good (ops z) L h C c j w g may);
             fits = add-fits (withHand (some w') (clientOf c));
-          }))
-        where
-          w' : Write
-          w' = Writing.withDone w (including j (w .done))
+          }
 
-    module _ (client : Within (z .m) c) (redundant : (z .k < j) × (j ≤ z .n)) where
-      add-after : (w : Write) → C .hand c ≡ some w → has (w .done) j ≡ false → Node.takesAdd (nodeOf j) ≡ true → C .epoch j ≤ w .epoch .0 →
-          After add j c (Writing.addAfter z c j w (w .previous) (atNode j c s))
-      unfolding Writing.addAfter
-      add-after w hand todo takes epoch = go (w .previous) refl
-        where
-          may : previousListed (w .previous) (C .entries j) ≡ true → MayAdd (ops z) C c j w
-          may previous =
-              let (norm, lock) = and-both (Node.isNorm (C .op j)) (Node.isUnl (nodeOf j .lmode) || Node.isL0 (nodeOf j .lmode)) takes in
-              record {
-                hand = hand;
-                redundant = redundant .0;
-                high = redundant .1;
-                todo = todo;
-                norm = norm;
-                lock = rw (unl-is (nodeOf j), l0-is (nodeOf j)) at lock;
-                epoch = epoch;
-                previous = previous;
-              }
+    may-add : (w : Write) → AddPasses z c j (nodeOf j) (clientOf c) w → MayAdd (ops z) C c j w
+    may-add w p =
+        let (client, redundant) = and-both (isClient z c) (isRedundant z j) (p .range) in
+        let (low, high) = and-both (ltb (z .k) j) (leb j (z .n)) redundant in
+        let (norm, lock) = and-both (Node.isNorm (C .op j)) (Node.isUnl (nodeOf j .lmode) || Node.isL0 (nodeOf j .lmode)) (p .takes) in
+        record {
+          hand = p .held;
+          redundant = ltb-true (z .k) j low;
+          high = leb-true j (z .n) high;
+          todo = p .todo;
+          norm = norm;
+          lock = rw (unl-is (nodeOf j), l0-is (nodeOf j)) at lock;
+          epoch = p .epoch;
+          previous = p .previous;
+        }
 
-          go : (p : Previous) → w .previous ≡ p → After add j c (Writing.addAfter z c j w p (atNode j c s))
-          go Nothing e = add-entered client w (may (rw e))
-          go (Id x) e = tested add j c _ _ _ (λ r6. add-entered client w (may (rw e (not-false (isListed x (C .entries j)) r6))))
-
-      add-written : (t : Option Write) → C .hand c ≡ t → After add j c (Writing.addWrite z c j t (atNode j c s))
-      unfolding Writing.addWrite
-      add-written none e = at-refused z h s g f add j c _
-      add-written (some w) e =
-          tested add j c _ _ _ (λ r3. tested add j c _ _ _ (λ r4. tested add j c _ _ _ (λ r5.
-          add-after w e r3 (not-false _ r4) (ltb-false (w .epoch .0) (C .epoch j) r5))))
+    add-held : (t : Option Write) → clientOf c .hand ≡ t → Writing.addTests z c j (nodeOf j) (clientOf c) ≡ none →
+        After add j c (Writing.added z c j t (atNode j c s))
+    add-held none held e = add-empty z c j (nodeOf j) (clientOf c) held e
+    add-held (some w) held e =
+        let p = add-passes z c j (nodeOf j) (clientOf c) w held e in
+        let (client, redundant) = and-both (isClient z c) (isRedundant z j) (p .range) in
+        add-accepted (within client) w (may-add w p) (Writing.completes z j w) refl
 
     pub add-kept : Kept z h add (step z add s)
     unfolding step Writing.add
-    add-kept =
-        tested add j c _ _ _ (λ r1. tested add j c _ _ _ (λ r2.
-        let (client, redundant) = and-both (isClient z c) (isRedundant z j) (not-false _ r2) in
-        let (low, high) = and-both (ltb (z .k) j) (leb j (z .n)) redundant in
-        add-written (within client) (ltb-true (z .k) j low, leb-true j (z .n) high) (C .hand c) refl))
+    add-kept = tested add j c _ _ _ (λ r1. at-unless z h s g f add j c _ _ (add-held (C .hand c) refl))
 
   ---- check and drop: another hand
   put-hand : (j c : ℕ) (t : Option Write) → Within (z .m) c →

@@ -24,6 +24,7 @@ pub mod Relocks
 pub mod Largest
 pub mod Candidates
 -- the machine's calls keep the invariant
+pub mod Tests
 pub mod Kept
 pub mod InPhase
 pub mod KeptStart

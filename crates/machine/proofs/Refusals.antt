@@ -7,10 +7,7 @@ use mathlib.Core.Option.{Option, none, some}
 use Prim.Native.Nat.{ℕ, _+_}
 use lib.Dec.{eqb, leb}
 use lib.ListN.{length}
-use Rattle.code.specs.Decode.{including}
 use Rattle.entries.specs.Entries.{isRecentIn, previousRecent}
-use Rattle.entries.specs.declared.Previous.{Previous}
-use Rattle.entries.specs.declared.Previous.the-variants.{Nothing, Id}
 use Rattle.records.specs.Node.{isL0, isL1}
 use Rattle.records.specs.declared.Sizes.{Sizes}
 use Rattle.records.specs.declared.NodeCall.{NodeCall}
@@ -21,7 +18,7 @@ use Rattle.records.specs.declared.ClientCall.the-variants as ClientCall
 use Rattle.records.specs.declared.Refusal.{Refusal}
 use Rattle.records.specs.declared.Refusal.the-variants.{OutOfLimits, OutOfRange, OutOfPhase}
 use Rattle.records.specs.Client.{Write, remembered}
-use Rattle.machine.specs.Stripe.{Stripe, Answer, Accepted, Rebuilt, number, nodeAt, Outcome, answered, refused, guard, Local, Whole, atNode, putNode, onNode, whole, putWhole, onWhole}
+use Rattle.machine.specs.Stripe.{Stripe, Answer, Accepted, Added, Done, Rebuilt, number, nodeAt, Outcome, answered, refused, guard, Local, Whole, atNode, putNode, onNode, whole, putWhole, onWhole}
 use Rattle.machine.specs.Writing as Writing
 use Rattle.machine.specs.Rebuild as Rebuild
 use Rattle.machine.specs.Failure as Failure
@@ -62,28 +59,26 @@ module _ (z : Sizes) where
     unfolding Writing.read
     read-same i = same-guard l _ _ _ (same-guard l _ _ _ (same-guard l _ _ _ (same-other l _ _ refl)))
 
+    unless-same : (tests : Option Refusal) (effect : Outcome Local) → Same l effect → Same l (Writing.unless tests l effect)
+    unless-same none effect k = k
+    unless-same (some why) effect k = same-refused l why
+
     swap-same : (c i : ℕ) (value : List ℕ) → Same l (Writing.swap z c i value l)
     unfolding Writing.swap
     swap-same c i value =
-        same-guard l _ _ _ (same-guard l _ _ _ (same-guard l _ _ _ (same-guard l _ _ _ (same-guard l _ _ _ (same-guard l _ _ _ (same-other l _ _ refl))))))
+        let after = Writing.swapped z c i value l in
+        same-guard l _ _ _ (unless-same (Writing.swapTests z c i (l .node) (l .client)) (answered Accepted after) (same-other l Accepted after refl))
 
-    enter-same : (c j : ℕ) (w : Write) → Same l (Writing.addEnter z c j w l)
-    unfolding Writing.addEnter
-    enter-same c j w = same-guard l _ _ _ (same-cond l (Writing.isComplete z (w .id .position) (including j (w .done))) _ _ (same-other l _ _ refl) (same-other l _ _ refl))
-
-    after-same : (c j : ℕ) (w : Write) (p : Previous) → Same l (Writing.addAfter z c j w p l)
-    unfolding Writing.addAfter
-    after-same c j w Nothing = enter-same c j w
-    after-same c j w (Id x) = same-guard l _ _ _ (enter-same c j w)
-
-    write-same : (c j : ℕ) (w : Option Write) → Same l (Writing.addWrite z c j w l)
-    unfolding Writing.addWrite
-    write-same c j none = same-refused l _
-    write-same c j (some w) = same-guard l _ _ _ (same-guard l _ _ _ (same-guard l _ _ _ (after-same c j w (w .previous))))
+    added-same : (c j : ℕ) (hand : Option Write) → Same l (Writing.added z c j hand l)
+    added-same c j none = same-refused l _
+    added-same c j (some w) =
+        same-other l _ _ (cond-ind (λ a. mayChange (number a) ≡ true) (Writing.completes z j w) Done Added (λ e. refl) (λ e. refl))
 
     add-same : (c j : ℕ) → Same l (Writing.add z c j l)
     unfolding Writing.add
-    add-same c j = same-guard l _ _ _ (same-guard l _ _ _ (write-same c j (l .client .hand)))
+    add-same c j =
+        let hand = l .client .hand in
+        same-guard l _ _ _ (unless-same (Writing.addTests z c j (l .node) (l .client)) (Writing.added z c j hand l) (added-same c j hand))
 
     checked-same : (j : ℕ) (w : Option Write) → Same l (Writing.checkWrite j w l)
     unfolding Writing.checkWrite

@@ -83,12 +83,12 @@ ended (e ∷ past) = record { finished = finishes z e past; blocks = e .blocks; 
 -- example 6
 pub half-rebuilt : ended (pastOf (halfWritten ++ rebuild)) ≡
     record { finished = true; blocks = 1 ∷ 0 ∷ 142 ∷ 244 ∷ []; swaps = theWrite ∷ []; reported = [] }
-unfolding times step Field.double Field.timesBits Field.product Field.squares Field.inverse Blocks.part Blocks.setPart Blocks.byteAt Lists.listOf Blocks.table Blocks.zip Code.codeSizes Code.sum Code.coefficient Code.row Code.symbol Code.redundant Decode.has Decode.setOf Decode.membersFrom Decode.others Decode.scale Decode.recover Decode.recovered Decode.recoveredTable Decode.each Decode.invertible Sizes.sizesWithin Entries.sameId Entries.isIn Entries.isListed Entries.isRecentIn Entries.isOldIn Entries.lastRecentAfter Entries.aged Entries.idWithin Entries.entriesWithin Node.setWithin Node.nodeWithin Entries.idsWithin Client.unlOrExp Client.clientWithin Lists.elementAt Lists.setAt Stripe.guard Lists.everyOf Lists.someOf Writing.swap Writing.addEnter Writing.addAfter Writing.addWrite Writing.add Failure.stop Failure.fail Rebuild.holding Rebuild.lockNode Rebuild.lock Rebuild.recentIds Rebuild.atPosition Rebuild.largest Rebuild.countInit Rebuild.largestEpoch Rebuild.pickNow Rebuild.pick Rebuild.write Rebuild.settle made play History.settles History.nodesAt History.finishes History.swapsAt History.lastSwap History.reportedAt History.failedSince History.gathered
+unfolding times step Field.double Field.timesBits Field.product Field.squares Field.inverse Blocks.part Blocks.setPart Blocks.byteAt Lists.listOf Blocks.table Blocks.zip Code.codeSizes Code.sum Code.coefficient Code.row Code.symbol Code.redundant Decode.has Decode.setOf Decode.membersFrom Decode.others Decode.scale Decode.recover Decode.recovered Decode.recoveredTable Decode.each Decode.invertible Sizes.sizesWithin Entries.sameId Entries.isIn Entries.isListed Entries.isRecentIn Entries.isOldIn Entries.lastRecentAfter Entries.aged Entries.idWithin Entries.entriesWithin Node.setWithin Node.nodeWithin Entries.idsWithin Client.unlOrExp Client.clientWithin Lists.elementAt Lists.setAt Stripe.guard Lists.everyOf Lists.someOf Writing.swapTests Writing.swap Writing.writeTests Writing.addTests Writing.add Failure.stop Failure.fail Rebuild.holding Rebuild.lockNode Rebuild.lock Rebuild.recentIds Rebuild.atPosition Rebuild.largest Rebuild.countInit Rebuild.largestEpoch Rebuild.pickNow Rebuild.pick Rebuild.write Rebuild.settle made play History.settles History.nodesAt History.finishes History.swapsAt History.lastSwap History.reportedAt History.failedSince History.gathered
 half-rebuilt = refl
 
 pub done-rebuilt : ended (pastOf (written ++ rebuild)) ≡
     record { finished = true; blocks = 1 ∷ 0 ∷ 142 ∷ 244 ∷ []; swaps = theWrite ∷ []; reported = theWrite ∷ [] }
-unfolding times step Field.double Field.timesBits Field.product Field.squares Field.inverse Blocks.part Blocks.setPart Blocks.byteAt Lists.listOf Blocks.table Blocks.zip Code.codeSizes Code.sum Code.coefficient Code.row Code.symbol Code.redundant Decode.has Decode.setOf Decode.membersFrom Decode.others Decode.scale Decode.recover Decode.recovered Decode.recoveredTable Decode.each Decode.invertible Sizes.sizesWithin Entries.sameId Entries.isIn Entries.isListed Entries.isRecentIn Entries.isOldIn Entries.lastRecentAfter Entries.aged Entries.idWithin Entries.entriesWithin Node.setWithin Node.nodeWithin Entries.idsWithin Client.unlOrExp Client.clientWithin Lists.elementAt Lists.setAt Stripe.guard Lists.everyOf Lists.someOf Writing.swap Writing.addEnter Writing.addAfter Writing.addWrite Writing.add Failure.stop Failure.fail Rebuild.holding Rebuild.lockNode Rebuild.lock Rebuild.recentIds Rebuild.atPosition Rebuild.largest Rebuild.countInit Rebuild.largestEpoch Rebuild.pickNow Rebuild.pick Rebuild.write Rebuild.settle made play History.settles History.nodesAt History.finishes History.swapsAt History.lastSwap History.reportedAt History.failedSince History.gathered
+unfolding times step Field.double Field.timesBits Field.product Field.squares Field.inverse Blocks.part Blocks.setPart Blocks.byteAt Lists.listOf Blocks.table Blocks.zip Code.codeSizes Code.sum Code.coefficient Code.row Code.symbol Code.redundant Decode.has Decode.setOf Decode.membersFrom Decode.others Decode.scale Decode.recover Decode.recovered Decode.recoveredTable Decode.each Decode.invertible Sizes.sizesWithin Entries.sameId Entries.isIn Entries.isListed Entries.isRecentIn Entries.isOldIn Entries.lastRecentAfter Entries.aged Entries.idWithin Entries.entriesWithin Node.setWithin Node.nodeWithin Entries.idsWithin Client.unlOrExp Client.clientWithin Lists.elementAt Lists.setAt Stripe.guard Lists.everyOf Lists.someOf Writing.swapTests Writing.swap Writing.writeTests Writing.addTests Writing.add Failure.stop Failure.fail Rebuild.holding Rebuild.lockNode Rebuild.lock Rebuild.recentIds Rebuild.atPosition Rebuild.largest Rebuild.countInit Rebuild.largestEpoch Rebuild.pickNow Rebuild.pick Rebuild.write Rebuild.settle made play History.settles History.nodesAt History.finishes History.swapsAt History.lastSwap History.reportedAt History.failedSince History.gathered
 done-rebuilt = refl
 
 -- what a history has since the last finished rebuild, at positions 1 and 2
@@ -102,7 +102,7 @@ abbrev since : List Event → Since
 since past = record { failed = failedSince z past; swaps = swapsAt z 1 past; reported = reportedAt z 1 past; elsewhere = swapsAt z 2 past }
 
 written-since : since (pastOf written) ≡ record { failed = false; swaps = theWrite ∷ []; reported = theWrite ∷ []; elsewhere = [] }
-unfolding times step Field.double Field.timesBits Field.product Field.squares Field.inverse Blocks.part Blocks.setPart Blocks.byteAt Lists.listOf Blocks.table Blocks.zip Code.codeSizes Code.sum Code.coefficient Code.row Code.symbol Code.redundant Decode.has Decode.setOf Decode.membersFrom Decode.others Decode.scale Decode.recover Decode.recovered Decode.recoveredTable Decode.each Decode.invertible Sizes.sizesWithin Entries.sameId Entries.isIn Entries.isListed Entries.isRecentIn Entries.isOldIn Entries.lastRecentAfter Entries.aged Entries.idWithin Entries.entriesWithin Node.setWithin Node.nodeWithin Entries.idsWithin Client.unlOrExp Client.clientWithin Lists.elementAt Lists.setAt Stripe.guard Lists.everyOf Lists.someOf Writing.swap Writing.addEnter Writing.addAfter Writing.addWrite Writing.add Failure.stop Failure.fail Rebuild.holding Rebuild.lockNode Rebuild.lock Rebuild.recentIds Rebuild.atPosition Rebuild.largest Rebuild.countInit Rebuild.largestEpoch Rebuild.pickNow Rebuild.pick Rebuild.write Rebuild.settle made play History.settles History.nodesAt History.finishes History.swapsAt History.lastSwap History.reportedAt History.failedSince History.gathered
+unfolding times step Field.double Field.timesBits Field.product Field.squares Field.inverse Blocks.part Blocks.setPart Blocks.byteAt Lists.listOf Blocks.table Blocks.zip Code.codeSizes Code.sum Code.coefficient Code.row Code.symbol Code.redundant Decode.has Decode.setOf Decode.membersFrom Decode.others Decode.scale Decode.recover Decode.recovered Decode.recoveredTable Decode.each Decode.invertible Sizes.sizesWithin Entries.sameId Entries.isIn Entries.isListed Entries.isRecentIn Entries.isOldIn Entries.lastRecentAfter Entries.aged Entries.idWithin Entries.entriesWithin Node.setWithin Node.nodeWithin Entries.idsWithin Client.unlOrExp Client.clientWithin Lists.elementAt Lists.setAt Stripe.guard Lists.everyOf Lists.someOf Writing.swapTests Writing.swap Writing.writeTests Writing.addTests Writing.add Failure.stop Failure.fail Rebuild.holding Rebuild.lockNode Rebuild.lock Rebuild.recentIds Rebuild.atPosition Rebuild.largest Rebuild.countInit Rebuild.largestEpoch Rebuild.pickNow Rebuild.pick Rebuild.write Rebuild.settle made play History.settles History.nodesAt History.finishes History.swapsAt History.lastSwap History.reportedAt History.failedSince History.gathered
 written-since = refl
 
 pub none-failed : failedSince z (pastOf written) ≡ false

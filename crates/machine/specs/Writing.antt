@@ -19,6 +19,7 @@ use Rattle.entries.specs.declared.Previous.the-variants.{Nothing, Id}
 use Rattle.entries.specs.declared.WriteId.{WriteId}
 use Rattle.entries.specs.Entries.{Entry, isListed, isRecentIn, previousRecent, lastRecent, discard, markOld, entryLimit, finishedLimit, writeLimit}
 use Rattle.records.specs.declared.Sizes.{Sizes}
+use Rattle.records.specs.declared.Refusal.{Refusal}
 use Rattle.records.specs.declared.Refusal.the-variants.{OutOfLimits, OutOfRange, OutOfPhase, WrongMode, OldEpoch, BeforePrevious, Full, Exhausted}
 use Rattle.records.specs.Sizes.{sizesWithin, isNode, isPosition, isRedundant, isClient}
 use Rattle.records.specs.Node.{Node, isFree, takesAdd, entered, withEntries, nodeWithin}
@@ -34,8 +35,21 @@ abbrev pub tablesFit : Sizes → Local → Bool
 tablesFit z l = blocksFit z (l .blocks) && differencesFit z (l .differences)
 
 -- "4: the needs on modes are not met", with the node's opmode and lmode
+abbrev pub wrongMode : Node → Refusal
+wrongMode node = WrongMode (node .opmode) (node .lmode)
+
 abbrev pub needing : Bool → Local → Outcome Local → Outcome Local
-needing met l rest = guard (not met) (WrongMode (l .node .opmode) (l .node .lmode)) l rest
+needing met l rest = guard (not met) (wrongMode (l .node)) l rest
+
+-- A swap's and an add's tests past 1 are decided by the two records alone, and stand apart from what the call does. "The lowest applicable number
+-- wins": a chain of tests, in the order of their numbers, yields the refusal of the first that holds, or none
+abbrev pub test : Bool → Refusal → Option Refusal → Option Refusal
+test holds why rest = cond holds (some why) rest
+
+-- refused, a call leaves all unchanged; else it has its effect
+abbrev pub unless : Option Refusal → Local → Outcome Local → Outcome Local
+unless none l effect = effect
+unless (some why) l effect = refused why l
 
 -- "Read i: needs node i NORM and UNL; shows its block."
 unfoldable pub read : Sizes → ℕ → Local → Outcome Local
@@ -65,27 +79,20 @@ swapped z c i value l =
     }
 
 -- "Swap c, i, value: needs node i NORM and UNL."
+unfoldable pub swapTests : Sizes → ℕ → ℕ → Node → Client → Option Refusal
+swapTests z c i node client =
+    test (not (isClient z c && isPosition z i)) OutOfRange
+    (test (hasWrite (client .hand) || leb 1 (client .round)) OutOfPhase
+    (test (not (isFree node)) (wrongMode node)
+    (test (leb entryLimit (length (node .entries)) || leb finishedLimit (length (client .finished))) Full
+    (test (leb writeLimit (client .next .0)) Exhausted
+    none))))
+
 unfoldable pub swap : Sizes → ℕ → ℕ → List ℕ → Local → Outcome Local
 swap z c i value l =
     guard (not (sizesWithin z && (recordsFit z l && (tablesFit z l && eqb (length value) (z .b))))) OutOfLimits l
-    (guard (not (isClient z c && isPosition z i)) OutOfRange l
-    (guard (hasWrite (l .client .hand) || leb 1 (l .client .round)) OutOfPhase l
-    (needing (isFree (l .node)) l
-    (guard (leb entryLimit (length (l .node .entries)) || leb finishedLimit (length (l .client .finished))) Full l
-    (guard (leb writeLimit (l .client .next .0)) Exhausted l
-    (answered Accepted (swapped z c i value l)))))))
-
--- "c(j,i) times the difference is added and the id entered"
-abbrev pub addedTo : Sizes → ℕ → ℕ → Write → Client → Local → Local
-addedTo z c j write client l =
-    record {
-      node = entered (write .id) (l .node);
-      client = client;
-      blocks =
-          setBlock (z .b) j
-          (addTimes (coefficient j (write .id .position)) (block (z .b) j (l .blocks)) (block (z .b) c (l .differences))) (l .blocks);
-      differences = l .differences;
-    }
+    (unless (swapTests z c i (l .node) (l .client)) l
+    (answered Accepted (swapped z c i value l)))
 
 -- "When done has i and every redundant node"
 abbrev pub isComplete : Sizes → ℕ → NodeSet → Bool
@@ -94,33 +101,56 @@ isComplete z i done = has done i && each (z .n) (λ j. leb j (z .k) || has done 
 abbrev pub withDone : Write → NodeSet → Write
 withDone write done = record { id = write .id; previous = write .previous; epoch = write .epoch; done = done }
 
--- "j joins done. When done has i and every redundant node, the answer is Done"
-unfoldable pub addEnter : Sizes → ℕ → ℕ → Write → Local → Outcome Local
-addEnter z c j write l =
-    guard (leb entryLimit (length (l .node .entries))) Full l
-    (cond (isComplete z (write .id .position) (including j (write .done)))
-    (answered Done (addedTo z c j write (finishedWrite (write .id) (l .client)) l))
-    (answered Added (addedTo z c j write (withHand (some (withDone write (including j (write .done)))) (l .client)) l)))
+-- "j joins done. When done has i and every redundant node .. the id joins the finished list and the write leaves the hand"
+abbrev pub completes : Sizes → ℕ → Write → Bool
+completes z j write = isComplete z (write .id .position) (including j (write .done))
+
+abbrev pub joined : Sizes → ℕ → Write → Client → Client
+joined z j write client =
+    cond (completes z j write) (finishedWrite (write .id) client) (withHand (some (withDone write (including j (write .done)))) client)
+
+-- "Then c(j,i) times the difference is added and the id entered"
+abbrev pub addedTo : Sizes → ℕ → ℕ → Write → Local → Local
+addedTo z c j write l =
+    record {
+      node = entered (write .id) (l .node);
+      client = joined z j write (l .client);
+      blocks =
+          setBlock (z .b) j
+          (addTimes (coefficient j (write .id .position)) (block (z .b) j (l .blocks)) (block (z .b) c (l .differences))) (l .blocks);
+      differences = l .differences;
+    }
+
+-- "the answer is Done". Without a write in hand the tests refuse the call
+abbrev pub added : Sizes → ℕ → ℕ → Option Write → Local → Outcome Local
+added z c j none l = refused OutOfPhase l
+added z c j (some write) l = answered (cond (completes z j write) Done Added) (addedTo z c j write l)
 
 -- "The previous id, if any, must be listed there, recent or old."
-unfoldable pub addAfter : Sizes → ℕ → ℕ → Write → Previous → Local → Outcome Local
-addAfter z c j write Nothing l = addEnter z c j write l
-addAfter z c j write (Id id) l = guard (not (isListed id (l .node .entries))) (BeforePrevious id) l (addEnter z c j write l)
+abbrev pub previousTest : Previous → Node → Option Refusal → Option Refusal
+previousTest Nothing node rest = rest
+previousTest (Id id) node rest = test (not (isListed id (node .entries))) (BeforePrevious id) rest
 
-unfoldable pub addWrite : Sizes → ℕ → ℕ → Option Write → Local → Outcome Local
-addWrite z c j none l = refused OutOfPhase l
-addWrite z c j (some write) l =
-    guard (has (write .done) j) OutOfPhase l
-    (needing (takesAdd (l .node)) l
-    (guard (ltb (write .epoch .0) (l .node .epoch .0)) (OldEpoch (l .node .epoch)) l
-    (addAfter z c j write (write .previous) l)))
+-- "3: .. add .. without one; add at a done node"; "needs NORM, lmode UNL or L0, and node epoch at most the write's"
+unfoldable pub writeTests : ℕ → Option Write → Node → Option Refusal
+writeTests j none node = some OutOfPhase
+writeTests j (some write) node =
+    test (has (write .done) j) OutOfPhase
+    (test (not (takesAdd node)) (wrongMode node)
+    (test (ltb (write .epoch .0) (node .epoch .0)) (OldEpoch (node .epoch))
+    (previousTest (write .previous) node
+    (test (leb entryLimit (length (node .entries))) Full
+    none))))
 
--- "Add c, j (j redundant): needs NORM, lmode UNL or L0, and node epoch at most the write's."
+-- "Add c, j (j redundant)"
+unfoldable pub addTests : Sizes → ℕ → ℕ → Node → Client → Option Refusal
+addTests z c j node client = test (not (isClient z c && isRedundant z j)) OutOfRange (writeTests j (client .hand) node)
+
 unfoldable pub add : Sizes → ℕ → ℕ → Local → Outcome Local
 add z c j l =
     guard (not (sizesWithin z && (recordsFit z l && tablesFit z l))) OutOfLimits l
-    (guard (not (isClient z c && isRedundant z j)) OutOfRange l
-    (addWrite z c j (l .client .hand) l))
+    (unless (addTests z c j (l .node) (l .client)) l
+    (added z c j (l .client .hand) l))
 
 abbrev pub forgetting : Write → Write
 forgetting write = record { id = write .id; previous = Nothing; epoch = write .epoch; done = write .done }

@@ -2,5 +2,4 @@ pub mod Limits
 pub mod Stepping
 pub mod Phases
 pub mod Tabled
-pub mod PickedSets
-pub mod Picking
+pub mod Weakening

@@ -1,13 +1,14 @@
 -- What the contract of a call on the whole stripe says. The call steps one record, that of the node that the client's rebuild is at; it is told
 -- what was seen of all nodes, and says what becomes of the others. Assumes nothing.
-use mathlib.Core.Bool.{cond, _&&_, not, true}
+use mathlib.Core.Bool.{Bool, cond, _&&_, not, true}
 use mathlib.Core.List.{List, []}
 use mathlib.Core.Path.{_≡_}
 use Prim.Native.Nat.{ℕ}
+use lib.Dec.{eqb}
 use Rattle.machine.specs.Stripe as Stripe
 use Rattle.machine.specs.Stripe.{Outcome, Whole, answered, nodeAt}
 use Rattle.basics.specs.Lists.{setAt}
-use Rattle.machine.specs.Rebuild.{ownNode, goneOn, lost, holding, lockNode}
+use Rattle.machine.specs.Rebuild.{picks, phaseOf, ownNode, goneOn, lost, holding, lockNode}
 use Rattle.records.specs.declared.Sizes.{Sizes}
 use Rattle.records.specs.declared.NodeRecord.{NodeRecord}
 use Rattle.records.specs.declared.ClientRecord.{ClientRecord}
@@ -16,7 +17,7 @@ use Rattle.records.specs.declared.NodeAnswer.the-variants.{Accepted, Refused}
 use Rattle.records.specs.declared.Refusal.the-variants.{OutOfLimits, OutOfRange, NotHeld}
 use Rattle.records.specs.Sizes.{sizesWithin, isClient}
 use Rattle.records.specs.Node.{Node, heldBy}
-use Rattle.records.specs.Client.{nextNode, remembered, clientWithin}
+use Rattle.records.specs.Client.{Rebuild, nextNode, remembered, clientWithin}
 use Rattle.records.specs.View.{nodeOf, clientOf}
 use Rattle.stripe.specs.declared.seen.Seen.{Seen}
 use Rattle.stripe.specs.Seen.{Sees, keep, applied}
@@ -72,3 +73,7 @@ notHeld z c w = answered (Stripe.Refused NotHeld) (lost c w)
 -- a call that needs its own node alone, and then goes on with the next: `after` is what it makes of the node
 abbrev pub atOwn : (Node → Node) → Sizes → ℕ → Whole → Outcome Whole
 atOwn after z c w = holding (heldBy c (ownNode w)) c w (answered Stripe.Accepted (goneOn z (after (ownNode w)) w))
+
+-- the phase of pick and weaken: all nodes locked, and each one weakened before tightened again
+abbrev pub isPicking : Rebuild → Bool
+isPicking r = eqb (phaseOf r) picks && eqb (nextNode r) 0

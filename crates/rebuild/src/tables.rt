@@ -9,7 +9,7 @@ use records::Sizes;
 use stripe::Seen;
 
 // Whether the call goes on: 1, for the tables' lengths too, then 2.
-pub(crate) fn tabled_entrance(
+pub fn tabled_entrance(
     z: Sizes,
     c: u8,
     seen: Seen,

@@ -10,6 +10,7 @@ use lib.Dec.{eqb, leb, ltb}
 use lib.ListN.{length}
 use borrow.Author.Tests.{lt-leb, le-leb, ne-eqb}
 use Rattle.records.specs.declared.Sizes.{Sizes}
+use Rattle.records.specs.declared.Refusal.{Refusal}
 use Rattle.records.specs.declared.Refusal.the-variants.{OutOfLimits, OutOfRange}
 use Rattle.records.specs.Node.{failedNode, nodeWithin}
 use Rattle.records.specs.Client.{Client, freshClient, clientWithin}
@@ -26,6 +27,7 @@ use Rattle.machine.specs.Failure as Failure
 use Rattle.machine.specs.Aging as Aging
 use Rattle.machine.specs.Rebuild as Rebuild
 use Rattle.basics.proofs.Lists.{element-past}
+use Rattle.machine.proofs.Tests.{swap-out, add-out}
 use Rattle.machine.proofs.View.{refused-at, refused-on}
 use Rattle.script.specs.Lines.{shelfLine, eventOf}
 use Rattle.script.specs.Reading.{clipNumber, clipValue, clip, clipped}
@@ -118,6 +120,13 @@ module _ (z : Sizes) (s : Stripe) where
   unfolding guard denied
   first-tests true range s rest e = refl
   first-tests false range s rest e = rw e
+
+  -- of a swap and an add, whose tests past the first are a chain
+  first-chain : (test : Bool) (tests : Option Refusal) (l : Local) (effect : Outcome Local) → tests ≡ some OutOfRange
+      → guard test OutOfLimits l (Writing.unless tests l effect) ≡ denied test l
+  unfolding guard denied
+  first-chain true tests l effect e = refl
+  first-chain false tests l effect e = rw e
 
   module _ (small : Small z s) where
     at-clip : (j c : ℕ) → atNode (clipNumber j) (clipNumber c) s ≡ atNode j c s
@@ -260,8 +269,9 @@ module _ (z : Sizes) (s : Stripe) where
     clip-call room fits (Swap c i v) =
         value-clip (λ v. step z (Swap (clipNumber c) (clipNumber i) v) s) room fits
         (λ v e. denied-at (clipNumber i) (clipNumber c) (Writing.swap z (clipNumber c) (clipNumber i) v) true (swap-long (clipNumber c) (clipNumber i) v (atNode (clipNumber i) (clipNumber c) s) e)) v
-        ∙ at-both (λ c i. Writing.swap z c i v) (λ l. not (sizesWithin z && (Writing.recordsFit z l && (Writing.tablesFit z l && eqb (length v) (z .b))))) (isPosition z) (λ c i l e. first-tests _ _ l _ e) no-position c i
-    clip-call room fits (At Add c j) = at-both (Writing.add z) (λ l. not (sizesWithin z && (Writing.recordsFit z l && Writing.tablesFit z l))) (isRedundant z) (λ c j l e. first-tests _ _ l _ e) no-redundant c j
+        ∙ at-both (λ c i. Writing.swap z c i v) (λ l. not (sizesWithin z && (Writing.recordsFit z l && (Writing.tablesFit z l && eqb (length v) (z .b))))) (isPosition z)
+        (λ c i l e. first-chain _ (Writing.swapTests z c i (l .node) (l .client)) l _ (swap-out z c i (l .node) (l .client) e)) no-position c i
+    clip-call room fits (At Add c j) = at-both (Writing.add z) (λ l. not (sizesWithin z && (Writing.recordsFit z l && Writing.tablesFit z l))) (isRedundant z) (λ c j l e. first-chain _ (Writing.addTests z c j (l .node) (l .client)) l _ (add-out z c j (l .node) (l .client) e)) no-redundant c j
     clip-call room fits (At Check c j) = at-both (Writing.check z) (λ l. not (sizesWithin z && Writing.recordsFit z l)) (isNode z) (λ c j l e. first-tests _ _ l _ e) no-node c j
     clip-call room fits (By Drop c) = at-client (λ x. 0) (Writing.drop z) (λ l. not (sizesWithin z && clientWithin z (l .client))) (λ c l e. first-tests _ _ l _ e) c
     clip-call room fits (By Sweep c) = at-client (Writing.sweepNode z) (Writing.sweep z) (λ l. not (sizesWithin z && Writing.recordsFit z l)) (λ c l e. first-tests _ _ l _ e) c

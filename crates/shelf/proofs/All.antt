@@ -22,8 +22,8 @@ use Rattle.machine.specs.Rebuild as Rebuild
 use Rattle.machine.specs.Stripe.{Stripe, answered, guard, onWhole, putWhole, refused}
 use Rattle.basics.specs.Lists.{setAt}
 use Rattle.machine.proofs.View.{refused-on}
-use Rattle.rebuild.specs.declared.Picked.{Picked}
-use Rattle.rebuild.specs.Picking.{Picks, seenWhole}
+use Rattle.picking.specs.declared.Picked.{Picked}
+use Rattle.picking.specs.Picking.{Picks, seenWhole}
 use Rattle.records.specs.declared.ClientRecord.{ClientRecord}
 use Rattle.records.specs.declared.NodeRecord.{NodeRecord}
 use Rattle.records.specs.declared.Refusal.the-variants.{OutOfLimits}

@@ -8,7 +8,7 @@ use lib.ListN.{length, set}
 use Rattle.calls.specs.Answers.{Meets}
 use Rattle.machine.specs.Calls.{Pick}
 use Rattle.basics.specs.Lists.{setAt}
-use Rattle.rebuild.specs.declared.Picked.{Picked}
+use Rattle.picking.specs.declared.Picked.{Picked}
 use Rattle.records.specs.declared.ClientRecord.{ClientRecord}
 use Rattle.records.specs.declared.NodeRecord.{NodeRecord}
 use Rattle.records.specs.View.{clientOf}

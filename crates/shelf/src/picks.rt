@@ -9,7 +9,7 @@ use crate::PickRequest;
 use crate::Returned;
 use crate::TakenClient;
 use calls::Answer;
-use rebuild::Picked;
+use picking::Picked;
 use records::NodeRecord;
 use records::Refusal;
 use records::Sizes;
@@ -132,7 +132,7 @@ impl AllTaken {
             };
             return self.picked(taken, none);
         }
-        let r = rebuild::pick(z, request.c, nodes, client, blocks, spare);
+        let r = picking::pick(z, request.c, nodes, client, blocks, spare);
         self.picked(taken, r)
     }
 }

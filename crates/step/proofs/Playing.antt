@@ -35,8 +35,8 @@ use Rattle.calls.proofs.Left.{refusing, left-same, left-free}
 use Rattle.stripe.specs.Seen.{applied}
 use Rattle.stripe.specs.View.{nodesOf}
 use Rattle.writing.specs.Reading.{readInto}
-use Rattle.rebuild.specs.declared.Picked.{Picked}
-use Rattle.rebuild.specs.Picking.{Picks, seenWhole}
+use Rattle.picking.specs.declared.Picked.{Picked}
+use Rattle.picking.specs.Picking.{Picks, seenWhole}
 use Rattle.step.specs.declared.Stripe.{Stripe}
 use Rattle.step.specs.View.{Stored, clientsOf, stripeOf, stored, storedOf}
 use Rattle.step.specs.Plays.{Plays, ShownLeft, playing}

@@ -18,7 +18,7 @@ use crate::step;
 use calls::Answer;
 use calls::Call;
 use calls::StepCall;
-use rebuild::Picked;
+use picking::Picked;
 use rebuild::Stepped;
 use records::Refusal;
 use records::Sizes;
@@ -131,7 +131,7 @@ fn pick(z: Sizes, c: u8, stripe: Stripe, blocks: &[u8], spare: &mut [u8]) -> Pla
     let nodes = stripe.nodes;
     let clients = stripe.clients;
     let client = clients.get(z.m, c);
-    let r = rebuild::pick(z, c, nodes, client, blocks, spare);
+    let r = picking::pick(z, c, nodes, client, blocks, spare);
     let told = r.answer;
     if told.is_unchanged() {
         return Played {

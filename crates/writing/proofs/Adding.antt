@@ -1,104 +1,100 @@
--- The machine's add past its tests of limits and range: with no write in hand, at a node that is done, by the node's own answer. Assumes nothing.
+-- An add's tests by the code's, and what it answers. Assumes nothing.
 use mathlib.Core.Path.{_≡_, refl, sym, ap, _∙_}
-use mathlib.Core.Bool.{Bool, true, false, cond, not}
-use mathlib.Core.List.{List, []}
-use mathlib.Core.Option.{some}
+use mathlib.Core.Bool.{Bool, true, false, cond, _&&_, not}
+use mathlib.Core.List.{[]}
+use mathlib.Core.Option.{Option, none, some}
 use Prim.Native.Nat.{ℕ}
 use lib.Dec.{leb, ltb}
 use lib.ListN.{length}
-use Rattle.blocks.specs.Blocks.{block, setBlock, addTimes}
-use Rattle.code.specs.Code.{coefficient}
-use Rattle.code.specs.Decode.{has, including}
+use Rattle.code.specs.Decode.{has}
 use Rattle.code.specs.View.{nodeSetOf}
 use Rattle.entries.specs.declared.Previous.{Previous}
 use Rattle.entries.specs.declared.Previous.the-variants.{Nothing, Id}
-use Rattle.entries.specs.Entries.{isListed, entryLimit}
+use Rattle.entries.specs.Entries.{entryLimit, isListed}
 use Rattle.records.specs.declared.Sizes.{Sizes}
 use Rattle.records.specs.declared.Write.{Write}
-use Rattle.records.specs.declared.Hand.the-variants.{Empty, Holding}
-use Rattle.records.specs.declared.ClientRecord.{ClientRecord}
 use Rattle.records.specs.declared.NodeAnswer.{NodeAnswer}
-use Rattle.records.specs.declared.NodeAnswer.the-variants as NodeAnswer
+use Rattle.records.specs.declared.NodeAnswer.the-variants.{Accepted, Refused}
 use Rattle.records.specs.declared.Refusal.{Refusal}
-use Rattle.records.specs.declared.Refusal.the-variants.{OutOfPhase, WrongMode, OldEpoch, BeforePrevious, Full}
+use Rattle.records.specs.declared.Refusal.the-variants.{OutOfPhase, OldEpoch, BeforePrevious, Full}
+use Rattle.records.specs.Sizes.{isRedundant, isClient}
+use Rattle.records.specs.Node.{Node, takesAdd}
+use Rattle.records.specs.NodeSteps.{refusing, enterAnswer, afterPrevious, addAnswer}
+use Rattle.records.specs.Client.{Client}
 use Rattle.records.specs.Client as Client
-use Rattle.records.specs.Client.{withHand, finishedWrite}
-use Rattle.records.specs.Node.{Node, takesAdd, entered}
-use Rattle.records.specs.NodeSteps.{enterAnswer, afterPrevious, addAnswer}
-use Rattle.records.specs.View.{writeOf, clientOf}
-use Rattle.machine.specs.Stripe.{Outcome, Local, Added, Done, answered, refused, guard}
-use Rattle.machine.specs.Writing.{isComplete, withDone, addedTo, addEnter, addAfter, addWrite}
-use Rattle.calls.specs.declared.Answer.{Answer}
+use Rattle.records.specs.View.{writeOf}
+use Rattle.machine.specs.Stripe.{Local, Added, Done, number}
+use Rattle.machine.specs.Writing.{wrongMode, test, previousTest, writeTests, addTests, completes, added}
+use Rattle.machine.proofs.Tests.{add-empty}
 use Rattle.calls.specs.declared.Answer.the-variants as Answer
-use Rattle.calls.specs.Answers.{answerOf, Left, Meets, local}
-use Rattle.limits.proofs.NodeAnswers.{seen, seen-test}
+use Rattle.calls.specs.Answers.{answerOf}
 
-pub add-empty : (z : Sizes) (c j : ℕ) (client : ClientRecord) (l : Local) → client .hand ≡ Empty → refused OutOfPhase l ≡ addWrite z c j (clientOf client .hand) l
-unfolding addWrite
-add-empty z c j client l e = rw e
+-- ---- the answer
 
-module _ (z : Sizes) (c j : ℕ) (client : ClientRecord) (w : Write) (l : Local) where
-  -- ---- what an accepted add leaves: the client by whether the write is complete
+pub said : (b : Bool) → answerOf (cond b Answer.Done Answer.Added) [] ≡ cond b Done Added
+said true = refl
+said false = refl
 
-  abbrev write : Client.Write
-  write = writeOf w
+-- an add that its tests let through is accepted
+pub added-zero : (z : Sizes) (c j : ℕ) (l : Local) → addTests z c j (l .node) (l .client) ≡ none → number (added z c j (l .client .hand) l .answer) ≡ 0
+added-zero z c j l e = by (l .client .hand) refl
+  where
+    zero : (b : Bool) → number (cond b Done Added) ≡ 0
+    zero true = refl
+    zero false = refl
 
-  abbrev complete : Bool
-  complete = isComplete z (w .id .position) (including j (nodeSetOf (w .done)))
+    by : (hand : Option Client.Write) → l .client .hand ≡ hand → number (added z c j hand l .answer) ≡ 0
+    by none h = add-empty z c j (l .node) (l .client) h e
+    by (some w) h = zero (completes z j w)
 
-  abbrev done : Client.Client
-  done = finishedWrite (w .id) (l .client)
+-- ---- the chain of tests
 
-  abbrev more : Client.Client
-  more = withHand (some (withDone write (including j (nodeSetOf (w .done))))) (l .client)
+module _ (z : Sizes) (c j : ℕ) (x : Node) (y : Client) where
+  module _ (range : (isClient z c && isRedundant z j) ≡ true) where
+    pub add-in : addTests z c j x y ≡ writeTests j (y .hand) x
+    unfolding addTests
+    add-in = rw range
 
-  abbrev taken : Outcome Local
-  taken = cond complete (answered Done (addedTo z c j write done l)) (answered Added (addedTo z c j write more l))
+    pub add-without : y .hand ≡ none → addTests z c j x y ≡ some OutOfPhase
+    unfolding writeTests
+    add-without e = add-in ∙ rw e
 
-  either : (b : Bool) (x y : Client.Client) → answered (answerOf (cond b Answer.Done Answer.Added) []) (addedTo z c j write (cond b x y) l)
-      ≡ cond b (answered Done (addedTo z c j write x l)) (answered Added (addedTo z c j write y l))
-  either true x y = refl
-  either false x y = refl
+module _ (j : ℕ) (w : Write) (x : Node) where
+  pub add-done : has (nodeSetOf (w .done)) j ≡ true → writeTests j (some (writeOf w)) x ≡ some OutOfPhase
+  unfolding writeTests
+  add-done e = rw e
 
-  kept : (b : Bool) (same : Type 0) → Left (cond b Answer.Done Answer.Added) same
-  kept true same = tt
-  kept false same = tt
+  -- ---- the node's own answer is the rest of the chain
 
-  -- ---- the node's own answer among the tests
+  abbrev told : NodeAnswer → Option Refusal
+  told Accepted = none
+  told (Refused why) = some why
 
-  enter-seen : seen l taken (enterAnswer (l .node)) ≡ addEnter z c j write l
-  unfolding addEnter
-  enter-seen = seen-test l taken (leb entryLimit (length (l .node .entries))) Full NodeAnswer.Accepted
+  told-test : (t : Bool) (why : Refusal) (a : NodeAnswer) → told (refusing t why a) ≡ test t why (told a)
+  told-test true why a = refl
+  told-test false why a = refl
 
-  after-seen : (p : Previous) → seen l taken (afterPrevious p (l .node) (enterAnswer (l .node))) ≡ addAfter z c j write p l
-  unfolding addAfter
-  after-seen Nothing = enter-seen
-  after-seen (Id x) =
-      seen-test l taken (not (isListed x (l .node .entries))) (BeforePrevious x) (enterAnswer (l .node))
-      ∙ ap (guard (not (isListed x (l .node .entries))) (BeforePrevious x) l) enter-seen
+  abbrev room : Option Refusal
+  room = test (leb entryLimit (length (x .entries))) Full none
 
-  module _ (held : client .hand ≡ Holding w) where
-    pub add-done : has (nodeSetOf (w .done)) j ≡ true → refused OutOfPhase l ≡ addWrite z c j (clientOf client .hand) l
-    unfolding addWrite guard
-    add-done e = rw (held, e)
+  told-room : told (enterAnswer x) ≡ room
+  told-room = told-test (leb entryLimit (length (x .entries))) Full Accepted
 
-    module _ (todo : has (nodeSetOf (w .done)) j ≡ false) {told : NodeAnswer} (e : told ≡ addAnswer w (l .node)) where
-      answer-seen : {answer : NodeAnswer} → told ≡ answer → seen l taken answer ≡ addWrite z c j (clientOf client .hand) l
-      unfolding addWrite guard
-      answer-seen q =
-          ap (seen l taken) (sym q ∙ e)
-          ∙ seen-test l taken (not (takesAdd (l .node))) (WrongMode (l .node .opmode) (l .node .lmode)) _
-          ∙ ap (guard (not (takesAdd (l .node))) (WrongMode (l .node .opmode) (l .node .lmode)) l)
-          (seen-test l taken (ltb (w .epoch .0) (l .node .epoch .0)) (OldEpoch (l .node .epoch)) _
-          ∙ ap (guard (ltb (w .epoch .0) (l .node .epoch .0)) (OldEpoch (l .node .epoch)) l) (after-seen (w .previous)))
-          ∙ rw (held, todo)
+  told-previous : (p : Previous) → told (afterPrevious p x (enterAnswer x)) ≡ previousTest p x room
+  told-previous Nothing = told-room
+  told-previous (Id id) =
+      told-test (not (isListed id (x .entries))) (BeforePrevious id) (enterAnswer x)
+      ∙ ap (test (not (isListed id (x .entries))) (BeforePrevious id)) told-room
 
-      pub add-refused : {why : Refusal} → told ≡ NodeAnswer.Refused why → refused why l ≡ addWrite z c j (clientOf client .hand) l
-      add-refused q = answer-seen q
+  told-node : told (addAnswer w x)
+      ≡ test (not (takesAdd x)) (wrongMode x) (test (ltb (w .epoch .0) (x .epoch .0)) (OldEpoch (x .epoch)) (previousTest (w .previous) x room))
+  told-node =
+      told-test (not (takesAdd x)) (wrongMode x) _
+      ∙ ap (test (not (takesAdd x)) (wrongMode x))
+      (told-test (ltb (w .epoch .0) (x .epoch .0)) (OldEpoch (x .epoch)) _
+      ∙ ap (test (ltb (w .epoch .0) (x .epoch .0)) (OldEpoch (x .epoch))) (told-previous (w .previous)))
 
-      pub add-accepted : {a : Answer} {x : Node} {y : Client.Client} {t : List ℕ} {same : Type 0} → told ≡ NodeAnswer.Accepted → a ≡ cond complete Answer.Done Answer.Added
-          → x ≡ entered (w .id) (l .node) → y ≡ cond complete done more
-          → t ≡ setBlock (z .b) j (addTimes (coefficient j (w .id .position)) (block (z .b) j (l .blocks)) (block (z .b) c (l .differences))) (l .blocks)
-          → Meets (addWrite z c j (clientOf client .hand) l) a [] (local x y t (l .differences)) same
-      add-accepted {same = same} q answer node client blocks =
-          rw (answer, node, client, blocks) (record { said = either complete done more ∙ answer-seen q; left = kept complete same })
+  module _ (todo : has (nodeSetOf (w .done)) j ≡ false) where
+    pub add-told : (a : NodeAnswer) → a ≡ addAnswer w x → writeTests j (some (writeOf w)) x ≡ told a
+    unfolding writeTests
+    add-told a e = rw todo (sym (ap told e ∙ told-node))

@@ -1,9 +1,9 @@
 // Add: a client's difference, times the coefficient, into a redundant block, and the id of its write at that node.
 ghost use mathlib.Core.Bool.{true, cond, _&&_, _||_};
-ghost use mathlib.Core.List.{[]};
+ghost use mathlib.Core.List.{List, []};
 ghost use mathlib.Core.Option.{some};
 ghost use mathlib.Core.Path.{_≡_};
-ghost use Prim.Native.Nat.{_+_, _-_, _*_, _≤_, _<_};
+ghost use Prim.Native.Nat.{ℕ, _+_, _-_, _*_, _≤_, _<_};
 ghost use lib.Dec.{eqb, leb};
 ghost use lib.ListN.{length};
 ghost use Rattle.blocks.specs.Blocks.{block, setBlock, addTimes};
@@ -16,9 +16,9 @@ ghost use Rattle.records.specs.Node.{nodeWithin};
 ghost use Rattle.records.specs.Sizes.{sizesWithin, isRedundant, isClient};
 ghost use Rattle.records.specs.View.{nodeOf, writeOf, clientOf};
 ghost use Rattle.machine.specs.Writing;
-ghost use Rattle.machine.specs.Writing.{isComplete, withDone};
+ghost use Rattle.machine.specs.Writing.{isComplete, withDone, added};
 ghost use Rattle.calls.specs.Answers.{Meets, local};
-ghost use Rattle.writing.specs.Adding.{Ready};
+ghost use Rattle.writing.specs.Stepping.{Steps};
 use calls::Answer;
 use calls::AtNode;
 use calls::OfClient;
@@ -111,22 +111,13 @@ fn add_bytes(b: usize, c: u8, j: u8, i: u8, blocks: &mut [u8], differences: &[u8
     blocks::add_times_block(blocks, b, j as usize, &differences[a..e], x);
 }
 
-// The write in hand, added at node j if it is not done there and the node takes it.
-fn add_write(
-    z: Sizes,
-    c: u8,
-    j: u8,
-    write: Write,
-    node: NodeRecord,
-    client: ClientRecord,
-    blocks: &mut [u8],
-    differences: &[u8],
-) -> AtNode
-    requires { ⌜ Ready z c j write node client (now blocks) (now differences) ⌝ }
-    ensures { λ r. ⌜ Meets
-        (Writing.addWrite z c j (clientOf client .hand) (local (nodeOf node) (clientOf client) (now (blocks .entry)) (now (differences .entry))))
-        (r .answer) [] (local (nodeOf (r .node)) (clientOf (r .client)) (now (blocks .exit)) (now (differences .entry)))
-        ((r .node ≡ node) × (r .client ≡ client)) ⌝ }
+// The write in hand at node j, if it is not done there and the node takes it: the id entered, and j joined.
+fn step_write(z: Sizes, j: u8, write: Write, node: NodeRecord, client: ClientRecord) -> AtNode
+    requires { ⌜ (client .hand ≡ Hand.Holding write) × (z .k ≤ z .n) × (node .entries .count ≤ 16) × (client .finished .count < 8) ⌝ }
+    ensures { λ r. ⌜ ((c : ℕ) (blocks differences : List ℕ) → Steps
+        (Writing.writeTests j (clientOf client .hand) (nodeOf node))
+        (added z c j (clientOf client .hand) (local (nodeOf node) (clientOf client) blocks differences))
+        node client r) ⌝ }
 {
     let done = write.done;
     if done.contains(j as usize) {
@@ -137,8 +128,6 @@ fn add_write(
     if let NodeAnswer::Refused(why) = answer {
         return AtNode::refused(node, client, why);
     }
-    let b = z.b;
-    add_bytes(b, c, j, write.id.position, blocks, differences);
     let entered = step.node;
     let joined = join(z, j, write, client);
     let answer = joined.answer;
@@ -147,6 +136,24 @@ fn add_write(
         answer: answer,
         node: entered,
         client: client,
+    }
+}
+
+// The tests past those of the limits, in the order of their numbers; then the two records as the add leaves them.
+fn step_records(z: Sizes, c: u8, j: u8, node: NodeRecord, client: ClientRecord) -> AtNode
+    requires { ⌜ (sizesWithin z && (nodeWithin z (nodeOf node) && clientWithin z (clientOf client))) ≡ true ⌝ }
+    ensures { λ r. ⌜ ((blocks differences : List ℕ) → Steps
+        (Writing.addTests z c j (nodeOf node) (clientOf client))
+        (added z c j (clientOf client .hand) (local (nodeOf node) (clientOf client) blocks differences))
+        node client r) ⌝ }
+{
+    if !is_in_range(z, c, j) {
+        return AtNode::refused(node, client, Refusal::OutOfRange);
+    }
+    let hand = client.hand;
+    match hand {
+        Hand::Empty => AtNode::refused(node, client, Refusal::OutOfPhase),
+        Hand::Holding(write) => step_write(z, j, write, node, client),
     }
 }
 
@@ -168,12 +175,15 @@ pub fn add(
     if !is_within(z, node, client, blocks.len(), differences.len()) {
         return AtNode::refused(node, client, Refusal::OutOfLimits);
     }
-    if !is_in_range(z, c, j) {
-        return AtNode::refused(node, client, Refusal::OutOfRange);
+    let stepped = step_records(z, c, j, node, client);
+    let answer = stepped.answer;
+    if answer.number() != 0 {
+        return stepped;
     }
+    let b = z.b;
     let hand = client.hand;
-    match hand {
-        Hand::Empty => AtNode::refused(node, client, Refusal::OutOfPhase),
-        Hand::Holding(write) => add_write(z, c, j, write, node, client, blocks, differences),
+    if let Hand::Holding(write) = hand {
+        add_bytes(b, c, j, write.id.position, blocks, differences);
     }
+    stepped
 }

@@ -1,8 +1,8 @@
 // Swap.
 ghost use mathlib.Core.Bool.{_&&_, _||_};
-ghost use mathlib.Core.List.{[]};
+ghost use mathlib.Core.List.{List, []};
 ghost use mathlib.Core.Path.{_≡_};
-ghost use Prim.Native.Nat.{_+_, _-_, _*_, _≤_, _<_};
+ghost use Prim.Native.Nat.{ℕ, _+_, _-_, _*_, _≤_, _<_};
 ghost use lib.Dec.{eqb, leb};
 ghost use lib.ListN.{length};
 ghost use Rattle.blocks.specs.Blocks.{block, setBlock, difference};
@@ -12,8 +12,10 @@ ghost use Rattle.records.specs.Client.{began, hasWrite, clientWithin};
 ghost use Rattle.records.specs.Node.{nodeWithin};
 ghost use Rattle.records.specs.Sizes.{sizesWithin, isPosition, isClient};
 ghost use Rattle.records.specs.View.{nodeOf, clientOf};
+ghost use Rattle.machine.specs.Stripe.{Accepted, answered};
 ghost use Rattle.machine.specs.Writing as Writing;
 ghost use Rattle.calls.specs.Answers.{Meets, local};
+ghost use Rattle.writing.specs.Stepping.{Steps};
 use calls::Answer;
 use calls::AtNode;
 use entries::Ids;
@@ -92,6 +94,40 @@ fn begin(id: WriteId, node: NodeRecord, client: ClientRecord) -> ClientRecord
     client.begin(Write::new(id, previous, epoch))
 }
 
+// The tests past those of the limits, in the order of their numbers; then the two records as the swap leaves them.
+fn step_records(z: Sizes, c: u8, i: u8, node: NodeRecord, client: ClientRecord) -> AtNode
+    requires { ⌜ node .entries .count ≤ 16 ⌝ }
+    ensures { λ r. ⌜ ((value blocks differences : List ℕ) → Steps
+        (Writing.swapTests z c i (nodeOf node) (clientOf client))
+        (answered Accepted (Writing.swapped z c i value (local (nodeOf node) (clientOf client) blocks differences)))
+        node client r) ⌝ }
+{
+    if !is_in_range(z, c, i) {
+        return AtNode::refused(node, client, Refusal::OutOfRange);
+    }
+    if is_busy(client) {
+        return AtNode::refused(node, client, Refusal::OutOfPhase);
+    }
+    let id = next_id(c, i, client);
+    let step = node.swap(id);
+    let answer = step.answer;
+    if let NodeAnswer::Refused(why) = answer {
+        return AtNode::refused(node, client, why);
+    }
+    if Ids::LIMIT <= client.finished.count {
+        return AtNode::refused(node, client, Refusal::Full);
+    }
+    if ClientRecord::WRITES <= client.next.0 {
+        return AtNode::refused(node, client, Refusal::Exhausted);
+    }
+    let entered = step.node;
+    AtNode {
+        answer: Answer::Accepted,
+        node: entered,
+        client: begin(id, node, client),
+    }
+}
+
 // A value into data node i's block, its difference into client c's, and a new write in hand.
 pub fn swap(
     z: Sizes,
@@ -118,30 +154,12 @@ pub fn swap(
     ) {
         return AtNode::refused(node, client, Refusal::OutOfLimits);
     }
-    if !is_in_range(z, c, i) {
-        return AtNode::refused(node, client, Refusal::OutOfRange);
-    }
-    if is_busy(client) {
-        return AtNode::refused(node, client, Refusal::OutOfPhase);
-    }
-    let id = next_id(c, i, client);
-    let step = node.swap(id);
-    let answer = step.answer;
-    if let NodeAnswer::Refused(why) = answer {
-        return AtNode::refused(node, client, why);
-    }
-    if Ids::LIMIT <= client.finished.count {
-        return AtNode::refused(node, client, Refusal::Full);
-    }
-    if ClientRecord::WRITES <= client.next.0 {
-        return AtNode::refused(node, client, Refusal::Exhausted);
+    let stepped = step_records(z, c, i, node, client);
+    let answer = stepped.answer;
+    if answer.number() != 0 {
+        return stepped;
     }
     let b = z.b;
     swap_bytes(b, c, i, value, blocks, differences);
-    let entered = step.node;
-    AtNode {
-        answer: Answer::Accepted,
-        node: entered,
-        client: begin(id, node, client),
-    }
+    stepped
 }

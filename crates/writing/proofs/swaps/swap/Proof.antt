@@ -1,92 +1,94 @@
--- The tests of limits, range and phase, in order; then by the node's answer and the client's own limits. Assumes nothing.
-use mathlib.Core.Path.{sym, _∙_}
+-- The test of the limits, then the step of the two records; then the bytes. Assumes nothing.
+use mathlib.Core.Path.{_≡_, refl, sym, _∙_}
+use mathlib.Core.Bool.{true, _&&_}
+use mathlib.Core.Option.{Option}
 use borrow.Author.Needs.{needs}
-use Rattle.entries.proofs.Lists.{ids-count, entries-count}
+use Rattle.records.specs.declared.Refusal.{Refusal}
+use Rattle.records.specs.Sizes.{isPosition, isClient}
 use Rattle.records.specs.View.{nodeOf, clientOf}
+use Rattle.records.proofs.Limits.{few-entries}
+use Rattle.machine.specs.Stripe.{Local, Outcome, Accepted, answered}
 use Rattle.machine.specs.Writing as Writing
+use Rattle.machine.specs.Writing.{unless, swapTests, swapped}
+use Rattle.machine.proofs.Tests.{swap-passes}
 use Rattle.calls.specs.Answers.{local}
 use Rattle.limits.proofs.Returns.{holds, guards, refused-at-node}
-use Rattle.writing.proofs.Swapping.{isWithin, Ready, swap-refused, swap-full, swap-exhausted, swap-accepted, value-long, position-low, block-there, client-low, difference-there, entries-few}
+use Rattle.writing.proofs.Stepping.{passed, call-refused, call-accepted}
+use Rattle.writing.proofs.Swapping.{isWithin, value-long, position-low, block-there, client-low, difference-there, node-fits}
 use Rattle.writing.proofs.swaps.swap.Statement.{statement}
 use Rattle.writing.proofs.swaps.swap.Tie as tie
 
+abbrev lent : tie.Start → Local
+lent s = let a = s .args in local (nodeOf (a .node)) (clientOf (a .client)) (a .blocks .now) (a .differences .now)
+
+abbrev tests : tie.Start → Option Refusal
+tests s = let a = s .args in swapTests (a .z) (a .c) (a .i) (nodeOf (a .node)) (clientOf (a .client))
+
+abbrev effect : tie.Start → Outcome Local
+effect s = let a = s .args in answered Accepted (swapped (a .z) (a .c) (a .i) (a .value .now) (lent s))
+
 returns : tie.Need-returns
 unfolding Writing.swap
-returns c =
-    refused-at-node (c .refused .ensures) (search (guards, c .before .before .is-within .ensures, c .before .if1 .taken))
+returns c = refused-at-node (c .refused .ensures) (search (guards, c .before .before .is-within .ensures, c .before .if1 .taken))
+
+-- past the limits
+within : (c : tie.Else1) → let s = c .before .before .before .before .before in isWithin (s .args .z) (s .args .value .now) (lent s) ≡ true
+within c =
+    let s = c .before .before .before .before .before in
+    holds {t = isWithin (s .args .z) (s .args .value .now) (lent s)} (c .before .is-within .ensures) (c .if1 .left)
+
+whole : (c : tie.Else1) →
+    let s = c .before .before .before .before .before in
+    let a = s .args in
+    unless (tests s) (lent s) (effect s) ≡ Writing.swap (a .z) (a .c) (a .i) (a .value .now) (lent s)
+unfolding Writing.swap
+whole c = search (guards, c .before .is-within .ensures, c .if1 .left)
+
+step-records-requires : tie.Need-step-records-requires
+step-records-requires c κs =
+    let s = c .before .before .before .before .before in
+    let a = s .args in
+    few-entries (a .z) (a .node) (node-fits (a .z) (a .value .now) (lent s) (within c))
 
 returns-2 : tie.Need-returns-2
-unfolding Writing.swap
 returns-2 c =
-    let at-limits = c .before .before .before in
-    refused-at-node (c .refused2 .ensures) (search (guards, at-limits .before .is-within .ensures, at-limits .if1 .left, c .before .before .is-in-range .ensures, c .before .if2 .taken))
+    let at-step = c .before .before in
+    let s = at-step .before .before .before .before .before .before in
+    let a = s .args in
+    rw (← whole (at-step .before))
+    (call-refused {effect = effect s} (a .blocks .now) (a .differences .now) (tests s) (λ e. refl)
+    (at-step .step-records .ensures (a .value .now) (a .blocks .now) (a .differences .now)) (λ q. c .if2 .taken (c .before .number .ensures ∙ q)))
 
-returns-3 : tie.Need-returns-3
-unfolding Writing.swap
-returns-3 c =
-    let at-range = c .before .before .before in
-    let at-limits = at-range .before .before in
-    refused-at-node (c .refused3 .ensures) (search (guards, at-limits .before .is-within .ensures, at-limits .if1 .left, at-range .before .is-in-range .ensures, at-range .if2 .left, c .before .before .is-busy .ensures, c .before .if3 .taken))
-
--- past these tests
-ready : (c : tie.Else3) →
-    let args = c .before .before .before .before .before .before .before .before .before .args in
-    Ready (args .z) (args .c) (args .i) (args .value .now) (local (nodeOf (args .node)) (clientOf (args .client)) (args .blocks .now) (args .differences .now))
-ready c =
-    let at-range = c .before .before in
-    let at-limits = at-range .before .before in
-    let args = at-limits .before .before .before .before .before .args in
-    let l = local (nodeOf (args .node)) (clientOf (args .client)) (args .blocks .now) (args .differences .now) in
-    record {
-      limits = holds {t = isWithin (args .z) (args .value .now) l} (at-limits .before .is-within .ensures) (at-limits .if1 .left);
-      range = holds (at-range .before .is-in-range .ensures) (at-range .if2 .left);
-      idle = sym (c .before .is-busy .ensures) ∙ c .if3 .left;
-    }
-
-returns-4 : tie.Need-returns-4
-returns-4 c =
-    let at-swap = c .before .before .before .before in
-    let refuses = sym (c .before .before .answer .given .1) ∙ at-swap .swap .ensures .answered in
-    refused-at-node (c .refused4 .ensures) (swap-refused (ready (at-swap .before .before)) refuses)
-
-returns-5 : tie.Need-returns-5
-returns-5 c =
-    let at-answer = c .before .before .before in
-    let at-swap = at-answer .before .before in
-    let accepts = sym (at-answer .enum-told .given .1) ∙ at-swap .swap .ensures .answered in
-    refused-at-node (c .refused5 .ensures) (swap-full (ready (at-swap .before .before)) accepts (rw ids-count (c .before .if4 .taken)))
-
-returns-6 : tie.Need-returns-6
-returns-6 c =
-    let at-room = c .before .before .before in
-    let at-answer = at-room .before .before in
-    let at-swap = at-answer .before .before in
-    let accepts = sym (at-answer .enum-told .given .1) ∙ at-swap .swap .ensures .answered in
-    refused-at-node (c .refused6 .ensures) (swap-exhausted (ready (at-swap .before .before)) accepts (rw ids-count (at-room .if4 .left)) (c .before .if5 .taken))
-
-returns-7 : tie.Need-returns-7
-returns-7 c =
-    let at-bytes = c .before .before .before .before .before .before in
-    let at-number = at-bytes .before .before .before in
-    let at-room = at-number .before .before in
-    let at-answer = at-room .before .before in
-    let at-swap = at-answer .before .before in
-    let accepts = sym (at-answer .enum-told .given .1) ∙ at-swap .swap .ensures .answered in
-    let id = at-swap .before .next-id .ensures in
-    let entered = rw (at-answer .enum-told .given .1, id) at (at-swap .swap .ensures .left) in
-    swap-accepted (ready (at-swap .before .before)) accepts (rw ids-count (at-room .if4 .left)) (at-number .if5 .left)
-    entered (rw id at (c .begin .ensures)) (at-bytes .swap-bytes .ensures .0) (at-bytes .swap-bytes .ensures .1)
+range : (c : tie.Else2) →
+    let a = c .before .before .before .before .before .before .before .before .args in
+    (isClient (a .z) (a .c) && isPosition (a .z) (a .i)) ≡ true
+range c =
+    let at-step = c .before .before in
+    let s = at-step .before .before .before .before .before .before in
+    let a = s .args in
+    let none = passed {effect = effect s} (tests s) (at-step .step-records .ensures (a .value .now) (a .blocks .now) (a .differences .now)) (sym (c .before .number .ensures) ∙ c .if2 .left) in
+    swap-passes (a .z) (a .c) (a .i) (nodeOf (a .node)) (clientOf (a .client)) none .range
 
 swap-bytes-requires : tie.Need-swap-bytes-requires
 swap-bytes-requires c κs =
-    let R = ready (c .before .before .before .before .before .before .before .before .before .before) in
-    (value-long R, position-low R, block-there R, client-low R, difference-there R)
+    let at-number = c .before .before in
+    let at-limits = at-number .before .before .before in
+    let s = at-limits .before .before .before .before .before in
+    let a = s .args in
+    let fit = within at-limits in
+    let there = range at-number in
+    (value-long (a .z) (a .value .now) (lent s) fit, position-low (a .z) (a .value .now) (lent s) fit (a .c) (a .i) there, block-there (a .z) (a .value .now) (lent s) fit (a .c) (a .i) there, client-low (a .z) (a .value .now) (lent s) fit (a .c) (a .i) there, difference-there (a .z) (a .value .now) (lent s) fit (a .c) (a .i) there)
 
-begin-requires : tie.Need-begin-requires
-begin-requires c κs =
-    let at-number = c .before .before .before .before .before .before .before .before in
-    let R = ready (at-number .before .before .before .before .before .before .before .before) in
-    (rw (← entries-count) (entries-few R), at-number .if5 .left)
+returns-3 : tie.Need-returns-3
+returns-3 c =
+    let at-bytes = c .before .before .before .before in
+    let at-number = at-bytes .before .before .before in
+    let at-step = at-number .before .before in
+    let s = at-step .before .before .before .before .before .before in
+    let a = s .args in
+    rw (← whole (at-step .before))
+    (call-accepted {effect = effect s} (a .blocks .now) (a .differences .now) (tests s) (at-step .step-records .ensures (a .value .now) (a .blocks .now) (a .differences .now))
+    (sym (at-number .before .number .ensures) ∙ at-number .if2 .left) (at-bytes .swap-bytes .ensures .0) (at-bytes .swap-bytes .ensures .1))
 
 pub swap-spec : {M : Type 1} → statement M
 swap-spec =
@@ -95,24 +97,10 @@ swap-spec =
     (λ c κs. search needs)
     (λ c κs. search needs)
     returns
-    (λ c κs. search needs)
+    step-records-requires
     (λ c κs. search needs)
     returns-2
-    (λ c κs. search needs)
-    (λ c κs. search needs)
-    returns-3
-    (λ c κs. search needs)
-    (λ c κs. search needs)
-    (λ c. search needs)
-    (λ c κs. search needs)
-    returns-4
-    (λ c. search needs)
-    (λ c κs. search needs)
-    returns-5
-    (λ c κs. search needs)
-    returns-6
     swap-bytes-requires
-    begin-requires
     (λ c. search needs)
     (λ c. search needs)
-    returns-7)
+    returns-3)

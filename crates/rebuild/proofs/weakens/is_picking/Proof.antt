@@ -1,7 +1,7 @@
 -- By cases of the phase. Assumes nothing.
 use borrow.Author.Needs.{needs}
-use Rattle.rebuild.proofs.picks.is_picking.Statement.{statement}
-use Rattle.rebuild.proofs.picks.is_picking.Tie as tie
+use Rattle.rebuild.proofs.weakens.is_picking.Statement.{statement}
+use Rattle.rebuild.proofs.weakens.is_picking.Tie as tie
 
 pub is-picking-spec : {M : Type 1} → statement M
 is-picking-spec =

@@ -9,10 +9,10 @@ use Rattle.records.specs.Node.{heldBy}
 use Rattle.records.specs.View.{clientOf}
 use Rattle.calls.specs.Answers.{whole}
 use Rattle.rebuild.proofs.Limits.{sizes-known}
-use Rattle.rebuild.proofs.Picking.{weakens, weaken-recons, weaken-lost, weaken-held}
+use Rattle.rebuild.proofs.Weakening.{weakens, weaken-recons, weaken-lost, weaken-held}
 use Rattle.rebuild.proofs.Stepping.{steps-refused, steps-left, steps-as, steps-past}
-use Rattle.rebuild.proofs.picks.weaken_now.Statement.{statement}
-use Rattle.rebuild.proofs.picks.weaken_now.Tie as tie
+use Rattle.rebuild.proofs.weakens.weaken_now.Statement.{statement}
+use Rattle.rebuild.proofs.weakens.weaken_now.Tie as tie
 
 returns : tie.Need-returns
 unfolding weaken

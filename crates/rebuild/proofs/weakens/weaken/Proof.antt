@@ -5,10 +5,10 @@ use Rattle.machine.specs.Rebuild.{weaken}
 use Rattle.records.specs.View.{clientOf}
 use Rattle.calls.specs.Answers.{whole}
 use Rattle.rebuild.proofs.Limits.{admitted}
-use Rattle.rebuild.proofs.Picking.{picks-out}
+use Rattle.rebuild.proofs.Weakening.{picks-out}
 use Rattle.rebuild.proofs.Stepping.{steps-refused, steps-turned, steps-on}
-use Rattle.rebuild.proofs.picks.weaken.Statement.{statement}
-use Rattle.rebuild.proofs.picks.weaken.Tie as tie
+use Rattle.rebuild.proofs.weakens.weaken.Statement.{statement}
+use Rattle.rebuild.proofs.weakens.weaken.Tie as tie
 
 weaken-now-requires : tie.Need-weaken-now-requires
 weaken-now-requires c κs =

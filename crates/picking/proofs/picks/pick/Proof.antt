@@ -2,11 +2,12 @@
 use mathlib.Core.Path.{sym, _∙_}
 use borrow.Author.Needs.{needs}
 use Rattle.machine.specs.Rebuild.{pick, pickNow}
-use Rattle.rebuild.specs.Picking.{seenWhole}
-use Rattle.rebuild.proofs.Picking.{picks-refused, picks-as, pick-admitted, picks-in, picks-out}
+use Rattle.picking.specs.Picking.{seenWhole}
 use Rattle.rebuild.proofs.Tabled.{tabled-admitted, tabled-tables, tabled-failed, tabled-passed}
-use Rattle.rebuild.proofs.picks.pick.Statement.{statement}
-use Rattle.rebuild.proofs.picks.pick.Tie as tie
+use Rattle.rebuild.proofs.Weakening.{picks-in, picks-out}
+use Rattle.picking.proofs.Picking.{picks-refused, picks-as, pick-admitted}
+use Rattle.picking.proofs.picks.pick.Statement.{statement}
+use Rattle.picking.proofs.picks.pick.Tie as tie
 
 pick-now-requires : tie.Need-pick-now-requires
 pick-now-requires c κs =

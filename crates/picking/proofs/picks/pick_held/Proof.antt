@@ -9,12 +9,12 @@ use Rattle.machine.specs.Rebuild.{pickedSet}
 use Rattle.machine.proofs.CodeLaws.{sizes}
 use Rattle.stripe.specs.View.{nodesOf}
 use Rattle.stripe.proofs.NodeLists.{nodes-count, within-counted}
-use Rattle.rebuild.specs.Picking.{seenWhole}
+use Rattle.picking.specs.Picking.{seenWhole}
 use Rattle.rebuild.proofs.Limits.{sizes-known}
-use Rattle.rebuild.proofs.PickedSets.{picked-held, needed-least}
-use Rattle.rebuild.proofs.Picking.{picks-refused, picks-made, held-few, held-enough}
-use Rattle.rebuild.proofs.picks.pick_held.Statement.{statement}
-use Rattle.rebuild.proofs.picks.pick_held.Tie as tie
+use Rattle.picking.proofs.PickedSets.{picked-held, needed-least}
+use Rattle.picking.proofs.Picking.{picks-refused, picks-made, held-few, held-enough}
+use Rattle.picking.proofs.picks.pick_held.Statement.{statement}
+use Rattle.picking.proofs.picks.pick_held.Tie as tie
 
 picked-set-requires : tie.Need-picked-set-requires
 picked-set-requires c κs =

@@ -2,11 +2,11 @@
 use mathlib.Core.Path.{_≡_, refl, sym, _∙_}
 use native.Mathlib.Omega.{arith}
 use borrow.Author.Needs.{needs}
-use Rattle.rebuild.specs.Picking.{pickHeld, seenWhole}
+use Rattle.picking.specs.Picking.{pickHeld, seenWhole}
 use Rattle.rebuild.proofs.Limits.{sizes-known}
-use Rattle.rebuild.proofs.Picking.{picks-refused, picks-made, picks-as, now-exhausted, now-lost, now-held}
-use Rattle.rebuild.proofs.picks.pick_now.Statement.{statement}
-use Rattle.rebuild.proofs.picks.pick_now.Tie as tie
+use Rattle.picking.proofs.Picking.{picks-refused, picks-made, picks-as, now-exhausted, now-lost, now-held}
+use Rattle.picking.proofs.picks.pick_now.Statement.{statement}
+use Rattle.picking.proofs.picks.pick_now.Tie as tie
 
 largest-epoch-requires : tie.Need-largest-epoch-requires
 largest-epoch-requires c κs = let start = c .before .before in sizes-known (start .args .z) (start .pre .0 .sizes) .nodes-most

@@ -1,29 +1,24 @@
--- Pick and weaken: their phase, and what the contract of a pick says, which looks at all records. Assumes nothing.
-use mathlib.Core.Bool.{Bool, true, _&&_, not}
+-- What the contract of a pick says, which looks at all records. Assumes nothing.
+use mathlib.Core.Bool.{true, not}
 use mathlib.Core.List.{List, []}
 use mathlib.Core.Path.{_≡_}
 use Prim.Native.Nat.{ℕ}
-use lib.Dec.{eqb, ltb}
+use lib.Dec.{ltb}
 use Rattle.code.specs.Decode.{size, lowest, invertible}
 use Rattle.machine.specs.Stripe.{Accepted, Outcome, answered, guard, Whole}
 use Rattle.basics.specs.Lists.{everyOf}
-use Rattle.machine.specs.Rebuild.{picks, phaseOf, pickedSet, neededSize, picked}
+use Rattle.machine.specs.Rebuild.{pickedSet, neededSize, picked}
 use Rattle.records.specs.declared.Sizes.{Sizes}
 use Rattle.records.specs.declared.ClientRecord.{ClientRecord}
 use Rattle.records.specs.declared.Refusal.the-variants.{TooFew, NoInverse}
 use Rattle.records.specs.Sizes.{sizesWithin}
 use Rattle.records.specs.Node.{nodeWithin}
-use Rattle.records.specs.Client.{Rebuild, nextNode}
 use Rattle.records.specs.View.{clientOf}
 use Rattle.stripe.specs.declared.nodes.Nodes.{Nodes}
 use Rattle.stripe.specs.Seen.{keep, applied}
 use Rattle.stripe.specs.View.{nodesOf}
 use Rattle.calls.specs.Answers.{Meets, whole}
-use Rattle.rebuild.specs.declared.Picked.{Picked}
-
--- all nodes locked, and each one weakened before tightened again
-abbrev pub isPicking : Rebuild → Bool
-isPicking r = eqb (phaseOf r) picks && eqb (nextNode r) 0
+use Rattle.picking.specs.declared.Picked.{Picked}
 
 -- a pick with all nodes held, once E is known
 unfoldable pub pickHeld : Sizes → ℕ → Whole → Outcome Whole

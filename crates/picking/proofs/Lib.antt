@@ -1,0 +1,2 @@
+pub mod PickedSets
+pub mod Picking
