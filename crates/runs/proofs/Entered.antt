@@ -7,6 +7,8 @@ use lib.ListN.{replicate}
 use Rattle.machine.specs.Stripe as Machine
 use Rattle.machine.specs.Stripe.{number, fresh}
 use Rattle.machine.specs.Calls as Calls
+use Rattle.machine.specs.Guarantee.{Holds, KeepsDone}
+use Rattle.machine.proofs.Theorem.{demand3, keeps-done}
 use Rattle.records.specs.declared.ClientRecord.{ClientRecord}
 use Rattle.records.specs.declared.NodeRecord.{NodeRecord}
 use Rattle.records.specs.declared.Sizes.{Sizes}
@@ -15,8 +17,8 @@ use Rattle.records.specs.Node.{freshNode}
 use Rattle.records.specs.View.{clientOf, nodeOf}
 use Rattle.calls.proofs.Numbers.{left-one}
 use Rattle.shelf.specs.Table.{clientsIn}
-use Rattle.runs.specs.Entered.{Tables, tablesOf, Enters, stepped, picked, shown, EntersOne, kept, others, Demand3Entered}
-use Rattle.runs.proofs.Runs.{Stepped, refused-one, guarded, stepped-same, demand3-of}
+use Rattle.runs.specs.Entered.{Tables, tablesOf, Enters, stepped, picked, shown, EntersOne, kept, others, Demand3Entered, KeepsDoneEntered}
+use Rattle.runs.proofs.Runs.{Stepped, refused-one, guarded, stepped-same, every-run}
 
 -- the machine's step on what the tables stand for, but for the tests of their lengths and of a read's buffer
 enters-step : (z y : Sizes) (t : Tables) (call : Calls.Call) (a : Machine.Answer) (t′ : Tables) → (y ≡ z) ⊎ (number a ≡ 1) → Enters t y call a t′
@@ -32,7 +34,10 @@ steps-one z y t call a t′ permitted (kept x op answer after m) = enters-step z
 steps-one z y t call a t′ permitted (others x op u m) = refused-one z call (tablesOf z t) refl
 
 pub demand3-entered : Demand3Entered
-demand3-entered = demand3-of tablesOf EntersOne steps-one
+demand3-entered = every-run tablesOf EntersOne Holds demand3 steps-one
+
+pub keeps-done-entered : KeepsDoneEntered
+keeps-done-entered = every-run tablesOf EntersOne KeepsDone keeps-done steps-one
 
 -- answered 1, a call leaves the very tables that it was lent: so lent others than those that are kept, it leaves these too
 pub refused-same : (z : Sizes) (t : Tables) (call : Calls.Call) (a : Machine.Answer) (t′ : Tables) → Enters t z call a t′ → number a ≡ 1 → t′ ≡ t

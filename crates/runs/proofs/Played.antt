@@ -6,6 +6,8 @@ use Prim.Native.Nat.{ℕ}
 use Rattle.machine.specs.Stripe.{number, answered}
 use Rattle.machine.specs.Stripe as Machine
 use Rattle.machine.specs.Calls as Calls
+use Rattle.machine.specs.Guarantee.{Holds, KeepsDone}
+use Rattle.machine.proofs.Theorem.{demand3, keeps-done}
 use Rattle.records.specs.declared.Sizes.{Sizes}
 use Rattle.calls.specs.declared.Answer.{Answer}
 use Rattle.calls.specs.Answers.{answerOf}
@@ -15,8 +17,8 @@ use Rattle.calls.specs.Calls.{callOf}
 use Rattle.step.specs.View.{Stored, storedOf}
 use Rattle.step.specs.Plays.{playing, shownBy}
 use Rattle.calls.proofs.Numbers.{answer-one, left-one}
-use Rattle.runs.specs.Played.{PlaysOne, played, Demand3Played}
-use Rattle.runs.proofs.Runs.{Stepped, refused-one, guarded, demand3-of}
+use Rattle.runs.specs.Played.{PlaysOne, played, Demand3Played, KeepsDonePlayed}
+use Rattle.runs.proofs.Runs.{Stepped, refused-one, guarded, every-run}
 
 -- what is played is the machine's step, but for the test of a read's buffer
 plays-step : (z : Sizes) (call : Call) (value shown : List ℕ) (s : Machine.Stripe) {a : Machine.Answer} {s′ : Machine.Stripe}
@@ -41,4 +43,7 @@ steps-one z y s call a s′ permitted (played {call = c} {value = value} {shown 
         refused-one z (callOf c value) (storedOf z s) (λ i. answered (answerOf (is i) (shownBy c shown′)) (storedOf z (same i)))
 
 pub demand3-played : Demand3Played
-demand3-played = demand3-of storedOf PlaysOne steps-one
+demand3-played = every-run storedOf PlaysOne Holds demand3 steps-one
+
+pub keeps-done-played : KeepsDonePlayed
+keeps-done-played = every-run storedOf PlaysOne KeepsDone keeps-done steps-one

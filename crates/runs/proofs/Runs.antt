@@ -12,15 +12,14 @@ use Rattle.code.specs.Code.{codeSizes}
 use Rattle.machine.specs.Stripe.{Stripe, Answer, number, Outcome, answered, refused, guard}
 use Rattle.machine.specs.Calls.{Call, step}
 use Rattle.machine.specs.History.{Event, nodesAt, sizesAt}
-use Rattle.machine.specs.Guarantee.{Request, Allowed, AllAllowed, Holds, made, play, start, valueOf}
+use Rattle.machine.specs.Guarantee.{Request, Allowed, AllAllowed, EveryList, made, play, start, valueOf}
 use Rattle.machine.specs.Guarantee as Machine
 use Rattle.machine.proofs.Outside.{step-outside}
 use Rattle.machine.proofs.Refusals.{limits-same}
-use Rattle.machine.proofs.Theorem.{demand3}
 use Rattle.records.specs.declared.Sizes.{Sizes}
 use Rattle.records.specs.declared.Refusal.the-variants.{OutOfLimits}
 use Rattle.records.specs.Sizes.{sizesWithin}
-use Rattle.runs.specs.Runs.{Begun, Run, begun, called, Demand3Of}
+use Rattle.runs.specs.Runs.{Begun, Run, begun, called, EveryRun}
 
 -- sizes outside the limits
 abbrev none : Sizes
@@ -90,10 +89,10 @@ record Listed (z : Sizes) (run : Machine.Run) : Type 0 where
   allowed : AllAllowed z calls (start z spare differences)
   is : play calls (start z spare differences) ≡ run
 
-holds : (z : Sizes) → sizesWithin z ≡ true → (run : Machine.Run) → Listed z run → Holds z run
-holds z within run L =
-    subst (Holds z) (L .is)
-    (demand3 z within (L .spare) (L .differences) (L .spare-length) (L .differences-length) (L .spare-bytes) (L .differences-bytes) (L .calls) (L .allowed))
+holds : (P : Sizes → Machine.Run → Type 0) → EveryList P → (z : Sizes) → sizesWithin z ≡ true → (run : Machine.Run) → Listed z run → P z run
+holds P every z within run L =
+    subst (P z) (L .is)
+    (every z within (L .spare) (L .differences) (L .spare-length) (L .differences-length) (L .spare-bytes) (L .differences-bytes) (L .calls) (L .allowed))
 
 first : (z : Sizes) (s : Stripe) → Begun z s → Listed z (record { stripe = s; past = [] })
 unfolding play AllAllowed
@@ -139,7 +138,7 @@ one-more z s past L call bytes answer s′ x =
     permitted (inl e) = inl (e ∙ sizes-stay z past)
     permitted (inr one) = inr (ap (λ o. number (o .answer)) (sym (x .is)) ∙ one)
 
--- ---- the theorem
+-- ---- what holds of every list of the machine's calls holds of every list of the code's
 
 module _ {S : Type 0} (seen : Sizes → S → Stripe) (Makes : S → Sizes → Call → Answer → S → Type 0) where
   abbrev pub StepsAll : Type 0
@@ -152,5 +151,5 @@ module _ {S : Type 0} (seen : Sizes → S → Stripe) (Makes : S → Sizes → C
   listed steps z s past (called {s = t} {past = before} {y = y} {call = call} {answer = answer} R p m) =
       one-more z (seen z t) before (listed steps z t before R) call (p .bytes) answer (seen z s) (steps z y t call answer s (p .sizes) m)
 
-  pub demand3-of : StepsAll → Demand3Of seen Makes
-  demand3-of steps z within s past R = holds z within (record { stripe = seen z s; past = past }) (listed steps z s past R)
+  pub every-run : (P : Sizes → Machine.Run → Type 0) → EveryList P → StepsAll → EveryRun seen Makes P
+  every-run P every steps z within s past R = holds P every z within (record { stripe = seen z s; past = past }) (listed steps z s past R)

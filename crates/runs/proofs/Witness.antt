@@ -213,21 +213,21 @@ module _ (t : Tables) (c : ℕ) (nodes : List NodeRecord) (clients : List Client
 
 -- ---- the calls of the trace are the machine's
 
-said-writing : AllSaid atFirst writing
-unfolding AllSaid step Field.double Field.timesBits Field.product Field.squares Field.inverse Blocks.part Blocks.setPart Blocks.byteAt Lists.listOf Blocks.table Blocks.zip Code.codeSizes Code.sum Code.coefficient Code.row Code.symbol Code.redundant Decode.has Decode.setOf Decode.membersFrom Decode.others Decode.scale Decode.recover Decode.recovered Decode.recoveredTable Decode.each Decode.invertible Sizes.sizesWithin Entries.sameId Entries.isIn Entries.isListed Entries.isRecentIn Entries.isOldIn Entries.lastRecentAfter Entries.aged Entries.idWithin Entries.entriesWithin Node.setWithin Node.nodeWithin Entries.idsWithin Client.unlOrExp Client.clientWithin Machine.elementAt Machine.setAt guard everyOf Machine.someOf Writing.swap Writing.addEnter Writing.addAfter Writing.addWrite Writing.add Rebuild.holding Rebuild.lockNode Rebuild.lockIn Rebuild.lock Rebuild.recentIds Rebuild.atPosition Rebuild.largest Rebuild.countInit Rebuild.largestEpoch Rebuild.pickNow Rebuild.pickIn Rebuild.pick Rebuild.writeIn Rebuild.write Rebuild.settleIn Rebuild.settle Sets.nodeSetOf
-said-writing = (refl, (refl, (refl, tt)))
+record Trace : Type 0 where
+  writing-said : AllSaid atFirst writing
+  locking-said : AllSaid (last atFirst writing) locking
+  pick-said : answered Machine.Accepted (tablesOf z afterPick) ≡ step z (Pick 2) (tablesOf z (last (last atFirst writing) locking))
+  finishing-said : AllSaid afterPick finishing
 
-said-locking : AllSaid (last atFirst writing) locking
+trace : Trace
 unfolding AllSaid step Field.double Field.timesBits Field.product Field.squares Field.inverse Blocks.part Blocks.setPart Blocks.byteAt Lists.listOf Blocks.table Blocks.zip Code.codeSizes Code.sum Code.coefficient Code.row Code.symbol Code.redundant Decode.has Decode.setOf Decode.membersFrom Decode.others Decode.scale Decode.recover Decode.recovered Decode.recoveredTable Decode.each Decode.invertible Sizes.sizesWithin Entries.sameId Entries.isIn Entries.isListed Entries.isRecentIn Entries.isOldIn Entries.lastRecentAfter Entries.aged Entries.idWithin Entries.entriesWithin Node.setWithin Node.nodeWithin Entries.idsWithin Client.unlOrExp Client.clientWithin Machine.elementAt Machine.setAt guard everyOf Machine.someOf Writing.swap Writing.addEnter Writing.addAfter Writing.addWrite Writing.add Rebuild.holding Rebuild.lockNode Rebuild.lockIn Rebuild.lock Rebuild.recentIds Rebuild.atPosition Rebuild.largest Rebuild.countInit Rebuild.largestEpoch Rebuild.pickNow Rebuild.pickIn Rebuild.pick Rebuild.writeIn Rebuild.write Rebuild.settleIn Rebuild.settle Sets.nodeSetOf last
-said-locking = (refl, (refl, (refl, (refl, tt))))
-
-said-pick : answered Machine.Accepted (tablesOf z afterPick) ≡ step z (Pick 2) (tablesOf z (last (last atFirst writing) locking))
-unfolding AllSaid step Field.double Field.timesBits Field.product Field.squares Field.inverse Blocks.part Blocks.setPart Blocks.byteAt Lists.listOf Blocks.table Blocks.zip Code.codeSizes Code.sum Code.coefficient Code.row Code.symbol Code.redundant Decode.has Decode.setOf Decode.membersFrom Decode.others Decode.scale Decode.recover Decode.recovered Decode.recoveredTable Decode.each Decode.invertible Sizes.sizesWithin Entries.sameId Entries.isIn Entries.isListed Entries.isRecentIn Entries.isOldIn Entries.lastRecentAfter Entries.aged Entries.idWithin Entries.entriesWithin Node.setWithin Node.nodeWithin Entries.idsWithin Client.unlOrExp Client.clientWithin Machine.elementAt Machine.setAt guard everyOf Machine.someOf Writing.swap Writing.addEnter Writing.addAfter Writing.addWrite Writing.add Rebuild.holding Rebuild.lockNode Rebuild.lockIn Rebuild.lock Rebuild.recentIds Rebuild.atPosition Rebuild.largest Rebuild.countInit Rebuild.largestEpoch Rebuild.pickNow Rebuild.pickIn Rebuild.pick Rebuild.writeIn Rebuild.write Rebuild.settleIn Rebuild.settle Sets.nodeSetOf last
-said-pick = refl
-
-said-finishing : AllSaid afterPick finishing
-unfolding AllSaid step Field.double Field.timesBits Field.product Field.squares Field.inverse Blocks.part Blocks.setPart Blocks.byteAt Lists.listOf Blocks.table Blocks.zip Code.codeSizes Code.sum Code.coefficient Code.row Code.symbol Code.redundant Decode.has Decode.setOf Decode.membersFrom Decode.others Decode.scale Decode.recover Decode.recovered Decode.recoveredTable Decode.each Decode.invertible Sizes.sizesWithin Entries.sameId Entries.isIn Entries.isListed Entries.isRecentIn Entries.isOldIn Entries.lastRecentAfter Entries.aged Entries.idWithin Entries.entriesWithin Node.setWithin Node.nodeWithin Entries.idsWithin Client.unlOrExp Client.clientWithin Machine.elementAt Machine.setAt guard everyOf Machine.someOf Writing.swap Writing.addEnter Writing.addAfter Writing.addWrite Writing.add Rebuild.holding Rebuild.lockNode Rebuild.lockIn Rebuild.lock Rebuild.recentIds Rebuild.atPosition Rebuild.largest Rebuild.countInit Rebuild.largestEpoch Rebuild.pickNow Rebuild.pickIn Rebuild.pick Rebuild.writeIn Rebuild.write Rebuild.settleIn Rebuild.settle Sets.nodeSetOf
-said-finishing = (refl, (refl, (refl, (refl, (refl, (refl, (refl, (refl, tt))))))))
+trace =
+    record {
+      writing-said = (refl, (refl, (refl, tt)));
+      locking-said = (refl, (refl, (refl, (refl, tt))));
+      pick-said = refl;
+      finishing-said = (refl, (refl, (refl, (refl, (refl, (refl, (refl, (refl, tt))))))));
+    }
 
 -- ---- the runs
 
@@ -256,16 +256,16 @@ pastRebuilt = events finishing pastPicked
 
 pub written : Ran (last atFirst writing) pastWritten
 unfolding everyOf
-written = steps-more atFirst [] first writing refl said-writing
+written = steps-more atFirst [] first writing refl (trace .writing-said)
 
 pub rebuilt : Ran (last afterPick finishing) pastRebuilt
 unfolding everyOf last
 rebuilt =
-    let locked = steps-more (last atFirst writing) pastWritten written locking refl said-locking in
+    let locked = steps-more (last atFirst writing) pastWritten written locking refl (trace .locking-said) in
     let picked =
     pick-more (last (last atFirst writing) locking) 2 (afterPick .nodes) (afterPick .clients) (afterPick .spare)
-    (events locking pastWritten) locked refl said-pick in
-    steps-more afterPick pastPicked picked finishing refl said-finishing
+    (events locking pastWritten) locked refl (trace .pick-said) in
+    steps-more afterPick pastPicked picked finishing refl (trace .finishing-said)
 
 -- ---- what they are by the definitions of machine/specs/History
 

@@ -3,6 +3,7 @@ use mathlib.Core.List.{List, []}
 use Prim.Native.Nat.{ℕ}
 use Rattle.machine.specs.Stripe as Machine
 use Rattle.machine.specs.Calls as Calls
+use Rattle.machine.specs.Guarantee.{Holds, KeepsDone}
 use Rattle.records.specs.declared.ClientRecord.{ClientRecord}
 use Rattle.records.specs.declared.NodeRecord.{NodeRecord}
 use Rattle.records.specs.declared.Refusal.the-variants.{OutOfLimits}
@@ -14,7 +15,7 @@ use Rattle.shelf.specs.declared.PickRequest.{PickRequest}
 use Rattle.shelf.specs.declared.ReadRequest.{ReadRequest}
 use Rattle.shelf.specs.declared.Request.{Request}
 use Rattle.shelf.specs.Shelf.{Steps, Picks, Reads, stripeIn}
-use Rattle.runs.specs.Runs.{Demand3Of}
+use Rattle.runs.specs.Runs.{EveryRun}
 
 -- "the n node records lent as one table", the m client records as another, and the three tables of bytes
 pub record Tables : Type 0 where
@@ -47,5 +48,9 @@ pub data EntersOne (t : Tables) : Sizes → Calls.Call → Machine.Answer → Ta
   others : (z : Sizes) (call : Calls.Call) (u : Tables) → Enters u z call (Machine.Refused OutOfLimits) u
       → EntersOne t z call (Machine.Refused OutOfLimits) t
 
+-- demand 3, and what follows from it across rebuilds
 abbrev pub Demand3Entered : Type 0
-Demand3Entered = Demand3Of tablesOf EntersOne
+Demand3Entered = EveryRun tablesOf EntersOne Holds
+
+abbrev pub KeepsDoneEntered : Type 0
+KeepsDoneEntered = EveryRun tablesOf EntersOne KeepsDone

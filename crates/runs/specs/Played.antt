@@ -4,6 +4,7 @@ use mathlib.Core.List.{List}
 use Prim.Native.Nat.{ℕ}
 use Rattle.machine.specs.Stripe as Machine
 use Rattle.machine.specs.Calls as Calls
+use Rattle.machine.specs.Guarantee.{Holds, KeepsDone}
 use Rattle.records.specs.declared.Sizes.{Sizes}
 use Rattle.calls.specs.declared.Answer.{Answer}
 use Rattle.calls.specs.Answers.{answerOf}
@@ -11,7 +12,7 @@ use Rattle.calls.specs.declared.Call.{Call}
 use Rattle.calls.specs.Calls.{callOf}
 use Rattle.step.specs.View.{Stored, storedOf}
 use Rattle.step.specs.Plays.{Plays, shownBy}
-use Rattle.runs.specs.Runs.{Demand3Of}
+use Rattle.runs.specs.Runs.{EveryRun}
 
 -- the call was made with this value beside it and with this buffer, which it left as shown′, and did what `play` ensures
 pub data PlaysOne (s : Stored) : Sizes → Calls.Call → Machine.Answer → Stored → Type 0 where
@@ -19,5 +20,9 @@ pub data PlaysOne (s : Stored) : Sizes → Calls.Call → Machine.Answer → Sto
       → Plays z call value shown s answer shown′ s′
       → PlaysOne s z (callOf call value) (answerOf answer (shownBy call shown′)) s′
 
+-- demand 3, and what follows from it across rebuilds
 abbrev pub Demand3Played : Type 0
-Demand3Played = Demand3Of storedOf PlaysOne
+Demand3Played = EveryRun storedOf PlaysOne Holds
+
+abbrev pub KeepsDonePlayed : Type 0
+KeepsDonePlayed = EveryRun storedOf PlaysOne KeepsDone

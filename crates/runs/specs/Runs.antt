@@ -1,4 +1,4 @@
--- Lists of calls of the code, and what demand 3 says of them. The code keeps a stripe in some form S, which is seen as the machine's; `Makes s y call
+-- Lists of calls of the code, and what holds at every point of them. The code keeps a stripe in some form S, which is seen as the machine's; `Makes s y call
 -- answer s′` is what the contract of one call says: made on s with the sizes y it was answered so and left s′. Quotes are document 01's. Assumes nothing.
 use mathlib.Core.Bool.{true}
 use mathlib.Core.List.{List, [], _∷_}
@@ -10,7 +10,8 @@ use Rattle.blocks.specs.Blocks.{Bytes}
 use Rattle.machine.specs.Stripe.{Stripe, Answer, number, fresh}
 use Rattle.machine.specs.Calls.{Call}
 use Rattle.machine.specs.History.{Event}
-use Rattle.machine.specs.Guarantee.{Holds, valueOf}
+use Rattle.machine.specs.Guarantee.{valueOf}
+use Rattle.machine.specs.Guarantee as Machine
 use Rattle.records.specs.declared.Sizes.{Sizes}
 use Rattle.records.specs.Sizes.{sizesWithin}
 
@@ -36,7 +37,7 @@ pub data Run {S : Type 0} (seen : Sizes → S → Stripe) (Makes : S → Sizes �
       → Permitted z y call answer → Makes s y call answer s′
       → Run seen Makes z s′ (record { call = call; answer = answer; blocks = seen z s′ .blocks } ∷ past)
 
--- demand 3, at every point of every list of calls of the code: the history is of these calls and these answers, the blocks are these tables'
-abbrev pub Demand3Of : {S : Type 0} → (Sizes → S → Stripe) → (S → Sizes → Call → Answer → S → Type 0) → Type 0
-Demand3Of {S} seen Makes =
-    (z : Sizes) → sizesWithin z ≡ true → (s : S) (past : List Event) → Run seen Makes z s past → Holds z (record { stripe = seen z s; past = past })
+-- P holds at every point of every list of calls of the code: the history is of these calls and these answers, the blocks are these tables'
+abbrev pub EveryRun : {S : Type 0} → (Sizes → S → Stripe) → (S → Sizes → Call → Answer → S → Type 0) → (Sizes → Machine.Run → Type 0) → Type 0
+EveryRun {S} seen Makes P =
+    (z : Sizes) → sizesWithin z ≡ true → (s : S) (past : List Event) → Run seen Makes z s past → P z (record { stripe = seen z s; past = past })
