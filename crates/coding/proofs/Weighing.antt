@@ -1,20 +1,20 @@
 -- The loops of weights.rt, one turn on. Assumes nothing.
 use mathlib.Core.List.{List}
-use mathlib.Core.Path.{_≡_, refl, sym, ap, _∙_}
+use mathlib.Core.Path.{_≡_, refl, sym, ap, ap₂, _∙_}
 use mathlib.Core.Logic.{_≢_}
-use Prim.Native.Nat.{ℕ, zero, suc, _+_, _-_, _≤_, _<_}
-use native.Mathlib.Nat.{add-sub-cancel}
+use Prim.Native.Nat.{ℕ, zero, suc, _+_, _-_, _*_, _/_, _%_, _≤_, _<_}
+use native.Mathlib.Decide.{ℕ-discrete, decLt}
 use native.Mathlib.Numerals.{add-one}
 use native.Mathlib.Omega.{arith}
 use lib.Bits.{bitXor}
-use lib.ListN.{length, getD, take}
-use lib.Seq.{length-take-le, getD-take}
+use lib.ListN.{length, getD, take, set, length-set}
+use lib.Seq.{length-take-le, getD-take, getD-set-same, getD-set-other}
 use borrow.Author.Tests.{eq-eqb, ne-eqb}
-use Rattle.gf256.specs.Field.{product, inverse}
-use Rattle.gf256.proofs.Laws.{inverse-cancel}
+use Rattle.gf256.specs.Field.{product, inverse, power}
+use Rattle.gf256.proofs.Laws.{product-comm, power-add, power-turns, power-mod, inverse-by-logarithm, inverse-cancel}
 use Rattle.kernel.specs.Combine.{nth, Nodes}
 use Rattle.code.specs.Decode.{others, scale, recover, recovered}
-use Rattle.coding.specs.Weights.{Apart, First, share}
+use Rattle.coding.specs.Weights.{Apart, ApartBut, Rising, First, share, IsShare}
 use Rattle.code.proofs.Factors.{others-all, others-nonzero}
 use Rattle.gf256.proofs.Ring.{_⊕_, _⊗_, ring, Nonzero}
 use Rattle.code.proofs.Points.{apart}
@@ -23,10 +23,26 @@ use Rattle.gf256.proofs.Sum.{All, sum-ext}
 nth-next : (xs : List ℕ) (l : ℕ) → nth xs (suc l) ≡ getD xs l 0
 nth-next xs l = let e : suc l - 1 ≡ l = omega arith in rw e
 
+-- ---- logarithms
+
+-- that of a quotient
+pub power-over : (a b : ℕ) → b ≤ 3048 → power (a + (3060 - b)) ≡ power a ⊗ inverse (power b)
+power-over a b l =
+    let whole : 3060 - b ≡ (11 - b / 255) * 255 + (255 - b % 255) = omega arith in
+    power-add a (3060 - b)
+    ∙ ap (λ x. power a ⊗ x) (ap power whole ∙ power-turns (11 - b / 255) (255 - b % 255) ∙ inverse-by-logarithm (b % 255) (power b) (omega arith) (power-mod b))
+
+-- the points of nodes l and j differ
+pub points-apart : (nodes : List ℕ) → Nodes nodes → ((l : ℕ) → getD nodes l 0 < 256) → (j l : ℕ) → 1 ≤ j → j ≤ 256 → l < length nodes → getD nodes l 0 ≢ j
+    → Nonzero ((j - 1) ⊕ (getD nodes l 0 - 1))
+points-apart nodes n bytes j l j1 jl h d = apart j (getD nodes l 0) j1 jl (n .from l h) (omega (arith, bytes l)) (λ e. d (sym e))
+
 module _ (nodes : List ℕ) (q t l : ℕ) where
-  pub others-in : l + 1 ≢ q → product (bitXor t (getD nodes l 0 - 1)) (others (nth nodes) l q t) ≡ others (nth nodes) (l + 1) q t
+  pub others-in : l + 1 ≢ q → (r m : ℕ) → power r ≡ others (nth nodes) l q t → power m ≡ t ⊕ (getD nodes l 0 - 1) → power (r + m) ≡ others (nth nodes) (l + 1) q t
   unfolding others
-  others-in h = rw (add-one l, others, ne-eqb q (suc l) (omega arith), nth-next nodes l)
+  others-in h r m er em =
+      power-add r m ∙ ap₂ product er em ∙ product-comm (others (nth nodes) l q t) (t ⊕ (getD nodes l 0 - 1))
+      ∙ rw (add-one l, others, ne-eqb q (suc l) (omega arith), nth-next nodes l)
 
   pub others-out : l + 1 ≡ q → others (nth nodes) l q t ≡ others (nth nodes) (l + 1) q t
   unfolding others
@@ -53,16 +69,35 @@ unfolding recover
 recover-apart s k j q q1 qk far = rw (others-apart s k q (j - 1) q1 qk far) (simp ring)
 
 module _ (nodes : List ℕ) (n : Nodes nodes) (bytes : (l : ℕ) → getD nodes l 0 < 256) (j : ℕ) (j1 : 1 ≤ j) (jl : j ≤ 256) (a : Apart nodes j) where
-  far : All (length nodes) (λ l. Nonzero ((j - 1) ⊕ (nth nodes l - 1)))
-  far l l1 lk = apart j (nth nodes l) j1 jl (n .from (l - 1) (omega arith)) (omega (arith, bytes (l - 1))) (λ e. a (l - 1) (omega arith) (sym e))
+  pub recover-turn : (q : ℕ) → q < length nodes → (share-log own all : ℕ) → own < 255 → IsShare nodes (suc q) share-log
+      → power own ≡ (j - 1) ⊕ (getD nodes q 0 - 1)
+      → power all ≡ others (nth nodes) (length nodes) (length nodes + 1) (j - 1) ⊗ inverse (scale (length nodes) j)
+      → power (share-log + (255 - own) + all) ≡ recover (length nodes) (nth nodes) j (q + 1)
+  recover-turn q l share-log own all small is eo ea =
+      power-add (share-log + (255 - own)) all
+      ∙ rw (power-add share-log (255 - own), is .power-is, inverse-by-logarithm own ((j - 1) ⊕ (getD nodes q 0 - 1)) small eo, ea, ← nth-next nodes q, add-one q)
+      (recover-apart (nth nodes) (length nodes) j (suc q) (omega arith) (omega arith)
+      (λ i i1 ik. points-apart nodes n bytes j (i - 1) j1 jl (omega arith) (a (i - 1) (omega arith))))
 
-  pub recover-turn : (q : ℕ) → q < length nodes
-      → (share (length nodes) (nth nodes) (q + 1) ⊗ inverse ((j - 1) ⊕ (getD nodes q 0 - 1)))
-      ⊗ (others (nth nodes) (length nodes) (length nodes + 1) (j - 1) ⊗ inverse (scale (length nodes) j))
-      ≡ recover (length nodes) (nth nodes) j (q + 1)
-  recover-turn q l =
-      let here = ap (λ i. getD nodes i 0) (add-sub-cancel q 1) in
-      rw (← here) (recover-apart (nth nodes) (length nodes) j (q + 1) (omega arith) (omega arith) far)
+-- a node of rising nodes is none of the others
+pub rising-apart : (nodes : List ℕ) → Rising nodes → (q : ℕ) → 1 ≤ q → q ≤ length nodes → ApartBut nodes q (getD nodes (q - 1) 0)
+rising-apart nodes up q q1 qk l h d = by (decLt l (q - 1))
+  where
+    by : Dec (l < q - 1) → getD nodes l 0 ≢ getD nodes (q - 1) 0
+    by (yes b) = omega (arith, up .rises l (q - 1) b (omega arith))
+    by (no b) = omega (arith, up .rises (q - 1) l (omega arith) h)
+
+-- the loop over the shares
+pub record Shared (nodes : List ℕ) (i : ℕ) (r : List ℕ) : Type 0 where
+  pub size : length r ≡ 12
+  pub done : (q : ℕ) → q < i → IsShare nodes (suc q) (getD r q 0)
+
+pub shared-turn : (nodes : List ℕ) (i : ℕ) (r : List ℕ) (v : ℕ) → i < 12 → IsShare nodes (i + 1) v → Shared nodes i r → Shared nodes (i + 1) (set r i v)
+shared-turn nodes i r v l is s = record { size = length-set r i v ∙ s .size; done = λ q h. by q h (ℕ-discrete q i) }
+  where
+    by : (q : ℕ) → q < i + 1 → Dec (q ≡ i) → IsShare nodes (suc q) (getD (set r i v) q 0)
+    by q h (yes e) = rw (e, getD-set-same r i v 0 (omega (arith, s .size)), ← add-one i) is
+    by q h (no d) = rw (getD-set-other r i q v 0 d) (s .done q (omega arith))
 
 -- ---- the data nodes, 1 to k
 
@@ -78,6 +113,9 @@ module _ (nodes : List ℕ) (f : First nodes) (k : ℕ) (k12 : k ≤ 12) where
 
   pub data-nodes : Nodes (take k nodes)
   data-nodes = record { few = omega (arith, data-length); from = λ l h. omega (arith, data-at l (omega (arith, data-length))) }
+
+  pub data-apart : (j : ℕ) → ApartBut (take k nodes) j j
+  data-apart j l h d = omega (arith, data-at l (omega (arith, data-length)))
 
   pub scale-data : (j : ℕ) → others (nth (take k nodes)) (length (take k nodes)) j (j - 1) ≡ scale k j
   unfolding scale

@@ -6,7 +6,7 @@ use mathlib.Core.Path.{_≡_}
 use Prim.Native.Nat.{ℕ, suc, _-_, _≤_, _<_}
 use lib.Dec.{eqb, ltb}
 use lib.ListN.{length, getD}
-use Rattle.gf256.specs.Field.{product, inverse}
+use Rattle.gf256.specs.Field.{product, inverse, power}
 use Rattle.blocks.specs.Blocks.{byteAt}
 use Rattle.code.specs.Code.{coefficient}
 use Rattle.kernel.specs.Combine.{nth}
@@ -15,6 +15,10 @@ use Rattle.code.specs.Decode.{others, scale, recover, recovered}
 -- node j is none of them
 abbrev pub Apart : List ℕ → ℕ → Type 0
 Apart nodes j = (l : ℕ) → l < length nodes → getD nodes l 0 ≢ j
+
+-- none of them but the qth, q from 1
+abbrev pub ApartBut : List ℕ → ℕ → ℕ → Type 0
+ApartBut nodes q j = (l : ℕ) → l < length nodes → suc l ≢ q → getD nodes l 0 ≢ j
 
 -- each above the one before it
 pub record Rising (nodes : List ℕ) : Type 0 where
@@ -28,6 +32,15 @@ pub record First (nodes : List ℕ) : Type 0 where
 -- the factor of `recover` that belongs to node s q alone
 abbrev pub share : ℕ → (ℕ → ℕ) → ℕ → ℕ
 share k s q = product (scale k (s q)) (inverse (others s k q (s q - 1)))
+
+-- r is a logarithm of it, and small
+pub record IsShare (nodes : List ℕ) (q r : ℕ) : Type 0 where
+  pub power-is : power r ≡ share (length nodes) (nth nodes) q
+  pub small : r ≤ 6108
+
+-- r has that of each node
+pub record Shares (nodes r : List ℕ) : Type 0 where
+  pub at : (q : ℕ) → q < length nodes → IsShare nodes (suc q) (getD r q 0)
 
 -- byte p of node j's block, from the blocks of b bytes of the nodes
 abbrev pub restored : ℕ → List ℕ → List ℕ → ℕ → ℕ → ℕ

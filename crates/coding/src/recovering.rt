@@ -8,7 +8,7 @@ ghost use Rattle.blocks.specs.Blocks.{table};
 ghost use Rattle.kernel.specs.Combine.{nth, Holds, Nodes};
 ghost use Rattle.code.specs.Decode;
 ghost use Rattle.code.specs.View.{nodeSetOf};
-ghost use Rattle.coding.specs.Weights.{Apart, Rising, Recovers, share, restored};
+ghost use Rattle.coding.specs.Weights.{Apart, Rising, Recovers, Shares, restored};
 use crate::weights;
 use code::NodeSet;
 
@@ -31,11 +31,11 @@ fn node_row(
     powers: &[u8; 255],
     logarithms: &[u8; 256],
     nodes: &[u8],
-    shares: &[u8; 12],
+    shares: &[usize; 12],
     j: usize,
 ) -> [u8; 12]
     requires { ⌜ IsPowers (now powers) × IsLogarithms (now logarithms) × Nodes (now nodes) × (1 ≤ j) × (j ≤ 256)
-        × ((q : ℕ) → 1 ≤ q → q ≤ length (now nodes) → nth (now shares) q ≡ share (length (now nodes)) (nth (now nodes)) q) ⌝ }
+        × Shares (now nodes) (now shares) ⌝ }
     ensures { λ r. ⌜ Recovers (now (nodes .entry)) j (λ q. getD r q 0) ⌝ }
 {
     let q = place_of(nodes, j);
@@ -47,13 +47,13 @@ fn node_row(
 
 // The weights of the nodes 1 to m, twelve of each.
 fn fill_rows(rows: &mut [u8], m: usize, nodes: &[u8])
-    requires { ⌜ (m ≤ 256) × (length (now rows) ≡ 3072) × Nodes (now nodes) ⌝ }
+    requires { ⌜ (m ≤ 256) × (length (now rows) ≡ 3072) × Nodes (now nodes) × Rising (now nodes) ⌝ }
     ensures { λ _. ⌜ (length (now (rows .exit)) ≡ 3072)
         × ((u : ℕ) → u < m → Recovers (now (nodes .entry)) (suc u) (λ q. getD (now (rows .exit)) (u * 12 + q) 0)) ⌝ }
 {
     let powers = gf256::powers::table();
     let logarithms = gf256::logarithms::table();
-    let shares = weights::shares(&powers, &logarithms, nodes);
+    let shares = weights::shares(&logarithms, nodes);
     let mut j = 0;
     while j < m {
         let row = node_row(&powers, &logarithms, nodes, &shares, j + 1);

@@ -7,8 +7,7 @@ ghost use Rattle.gf256.specs.Field.{IsPowers, IsLogarithms};
 ghost use Rattle.code.specs.Code;
 ghost use Rattle.code.specs.Decode;
 ghost use Rattle.kernel.specs.Combine.{nth, Nodes};
-ghost use Rattle.coding.specs.Weights.{Apart, First, share, dataWeight, unitWeight};
-use blocks::doublings::multiply;
+ghost use Rattle.coding.specs.Weights.{Apart, ApartBut, Rising, First, IsShare, Shares, dataWeight, unitWeight};
 
 // The nodes that can hold data.
 pub fn data_nodes() -> [u8; 12]
@@ -17,7 +16,24 @@ pub fn data_nodes() -> [u8; 12]
     [1, 2, 3, 4, 5, 6, 7, 8, 9, 10, 11, 12]
 }
 
-// The inverse of a, by tables that are lent: so a table is copied once for a call, and not for each inverse.
+// ---- by tables that are lent: so a table is copied once for a call, and not for each product
+
+// The logarithm of a, where a is not 0.
+fn logarithm(logarithms: &[u8; 256], a: u8) -> usize
+    requires { ⌜ IsLogarithms (now logarithms) ⌝ }
+    ensures { λ r. ⌜ (r < 255) × (0 < a → Field.power r ≡ a) ⌝ }
+{
+    logarithms[a as usize] as usize
+}
+
+// x^i, for any i.
+fn power(powers: &[u8; 255], i: usize) -> u8
+    requires { ⌜ IsPowers (now powers) ⌝ }
+    ensures { λ r. ⌜ r ≡ Field.power i ⌝ }
+{
+    powers[i % 255]
+}
+
 fn inverse(powers: &[u8; 255], logarithms: &[u8; 256], a: u8) -> u8
     requires { ⌜ IsPowers (now powers) × IsLogarithms (now logarithms) ⌝ }
     ensures { λ r. ⌜ r ≡ Field.inverse a ⌝ }
@@ -25,9 +41,10 @@ fn inverse(powers: &[u8; 255], logarithms: &[u8; 256], a: u8) -> u8
     if a == 0 {
         return 0;
     }
-    let i = 255 - logarithms[a as usize] as usize;
-    powers[i % 255]
+    power(powers, 255 - logarithm(logarithms, a))
 }
+
+// ---- the coefficients
 
 // The weight of the data node that i nodes stand before in the redundant node j; 0 past the k data nodes.
 fn data_weight(powers: &[u8; 255], logarithms: &[u8; 256], k: usize, j: usize, i: usize) -> u8
@@ -56,52 +73,60 @@ pub fn data_weights(k: usize, m: usize) -> [u8; 72]
     r
 }
 
-// The product of t plus the point of each node but the qth.
-pub fn others(nodes: &[u8], q: usize, t: u8) -> u8
-    requires { ⌜ Nodes (now nodes) ⌝ }
-    ensures { λ r. ⌜ r ≡ Decode.others (nth (now (nodes .entry))) (length (now (nodes .entry))) q t ⌝ }
+// ---- the recovering weights, by their logarithms, which are added up: of twelve factors at most
+
+// The logarithm of the product, over each node but the qth, of the sum of its point and that of node j. Of the others none is node j.
+fn others(logarithms: &[u8; 256], nodes: &[u8], q: usize, j: usize) -> usize
+    requires { ⌜ IsLogarithms (now logarithms) × Nodes (now nodes) × ApartBut (now nodes) q j × (1 ≤ j) × (j ≤ 256) ⌝ }
+    ensures { λ r. ⌜ (Field.power r ≡ Decode.others (nth (now (nodes .entry))) (length (now (nodes .entry))) q (j - 1)) × (r ≤ 3048) ⌝ }
 {
-    let mut r: u8 = 1;
+    let t = (j - 1) as u8;
+    let mut r = 0;
     let mut l = 0;
     while l < nodes.len() {
         if l + 1 != q {
-            r = multiply(t ^ (nodes[l] - 1), r);
+            r += logarithm(logarithms, t ^ (nodes[l] - 1));
         }
         l += 1;
     }
     r
 }
 
-// The product over the data nodes but j of the sum of their point and that of j.
-fn scale(k: usize, j: usize) -> u8
-    requires { ⌜ (k ≤ 12) × (1 ≤ j) × (j ≤ 256) ⌝ }
-    ensures { λ r. ⌜ r ≡ Decode.scale k j ⌝ }
+// The same over the data nodes.
+fn scale(logarithms: &[u8; 256], k: usize, j: usize) -> usize
+    requires { ⌜ IsLogarithms (now logarithms) × (k ≤ 12) × (1 ≤ j) × (j ≤ 256) ⌝ }
+    ensures { λ r. ⌜ (Field.power r ≡ Decode.scale k j) × (r ≤ 3048) ⌝ }
 {
     let data = data_nodes();
-    others(&data[..k], j, (j - 1) as u8)
+    others(logarithms, &data[..k], j, j)
+}
+
+// The logarithm of a quotient: 3,060 is twelve times 255.
+fn over(a: usize, b: usize) -> usize
+    requires { ⌜ (a ≤ 3048) × (b ≤ 3048) ⌝ }
+    ensures { λ r. ⌜ (Field.power r ≡ Field.product (Field.power a) (Field.inverse (Field.power b))) × (r ≤ 6108) ⌝ }
+{
+    a + (3060 - b)
 }
 
 // What the qth node counts for by itself.
-fn share_of(powers: &[u8; 255], logarithms: &[u8; 256], nodes: &[u8], q: usize) -> u8
-    requires { ⌜ IsPowers (now powers) × IsLogarithms (now logarithms) × Nodes (now nodes) × (1 ≤ q) × (q ≤ length (now nodes)) ⌝ }
-    ensures { λ r. ⌜ r ≡ share (length (now (nodes .entry))) (nth (now (nodes .entry))) q ⌝ }
+fn share_of(logarithms: &[u8; 256], nodes: &[u8], q: usize) -> usize
+    requires { ⌜ IsLogarithms (now logarithms) × Nodes (now nodes) × Rising (now nodes) × (1 ≤ q) × (q ≤ length (now nodes)) ⌝ }
+    ensures { λ r. ⌜ IsShare (now (nodes .entry)) q r ⌝ }
 {
-    let j = nodes[q - 1];
-    let apart = others(nodes, q, j - 1);
-    multiply(
-        scale(nodes.len(), j as usize),
-        inverse(powers, logarithms, apart),
-    )
+    let j = nodes[q - 1] as usize;
+    let apart = others(logarithms, nodes, q, j);
+    over(scale(logarithms, nodes.len(), j), apart)
 }
 
-pub fn shares(powers: &[u8; 255], logarithms: &[u8; 256], nodes: &[u8]) -> [u8; 12]
-    requires { ⌜ IsPowers (now powers) × IsLogarithms (now logarithms) × Nodes (now nodes) ⌝ }
-    ensures { λ r. ⌜ ((q : ℕ) → 1 ≤ q → q ≤ length (now (nodes .entry)) → nth r q ≡ share (length (now (nodes .entry))) (nth (now (nodes .entry))) q) ⌝ }
+pub fn shares(logarithms: &[u8; 256], nodes: &[u8]) -> [usize; 12]
+    requires { ⌜ IsLogarithms (now logarithms) × Nodes (now nodes) × Rising (now nodes) ⌝ }
+    ensures { λ r. ⌜ Shares (now (nodes .entry)) r ⌝ }
 {
-    let mut r = [0u8; 12];
+    let mut r = [0usize; 12];
     let mut q = 0;
     while q < nodes.len() {
-        r[q] = share_of(powers, logarithms, nodes, q + 1);
+        r[q] = share_of(logarithms, nodes, q + 1);
         q += 1;
     }
     r
@@ -113,23 +138,22 @@ pub fn recover_row(
     powers: &[u8; 255],
     logarithms: &[u8; 256],
     nodes: &[u8],
-    shares: &[u8; 12],
+    shares: &[usize; 12],
     j: usize,
 ) -> [u8; 12]
     requires { ⌜ IsPowers (now powers) × IsLogarithms (now logarithms) × Nodes (now nodes) × Apart (now nodes) j × (1 ≤ j) × (j ≤ 256)
-        × ((q : ℕ) → 1 ≤ q → q ≤ length (now nodes) → nth (now shares) q ≡ share (length (now nodes)) (nth (now nodes)) q) ⌝ }
+        × Shares (now nodes) (now shares) ⌝ }
     ensures { λ r. ⌜ ((q : ℕ) → 1 ≤ q → q ≤ length (now (nodes .entry)) → nth r q ≡ Decode.recover (length (now (nodes .entry))) (nth (now (nodes .entry))) j q)
         × ((q : ℕ) → length (now (nodes .entry)) ≤ q → getD r q 0 ≡ 0) ⌝ }
 {
     let t = (j - 1) as u8;
     let k = nodes.len();
-    let rest = inverse(powers, logarithms, scale(k, j));
-    let all = multiply(others(nodes, k + 1, t), rest);
+    let all = over(others(logarithms, nodes, k + 1, j), scale(logarithms, k, j));
     let mut r = [0u8; 12];
     let mut q = 0;
     while q < k {
-        let own = inverse(powers, logarithms, t ^ (nodes[q] - 1));
-        r[q] = multiply(multiply(shares[q], own), all);
+        let own = logarithm(logarithms, t ^ (nodes[q] - 1));
+        r[q] = power(powers, shares[q] + (255 - own) + all);
         q += 1;
     }
     r

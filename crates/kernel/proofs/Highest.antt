@@ -10,8 +10,8 @@ use lib.ListN.{length, getD}
 use Rattle.gf256.specs.Field.{double, sum}
 use Rattle.gf256.proofs.Xor.{low-bit, xors, xor-assoc, xor-zero-l}
 use Rattle.blocks.specs.Blocks.{Bytes}
-use Rattle.kernel.specs.Lanes.{lane, chosen}
-use Rattle.kernel.proofs.Sixteen.{lane-in}
+use Rattle.lanes.specs.Lanes.{lane, chosen}
+use Rattle.lanes.proofs.Sixteen.{lane-in}
 use Rattle.kernel.specs.Working.{combined, Prepared, FirstZero, Zeroed, groupSum, spread, packed, place, stepped, highest}
 use Rattle.kernel.proofs.Horner.{above, byte, bits, above-none, above-all, above-next}
 

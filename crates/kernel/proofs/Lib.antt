@@ -1,4 +1,3 @@
-pub mod Sixteen
 pub mod Horner
 pub mod Tiles
 pub mod Highest

@@ -12,7 +12,7 @@ use lib.Seq.{getD-take, length-take-le}
 use Rattle.basics.proofs.Computed.{every, same-below}
 use Rattle.blocks.specs.Blocks.{setPart}
 use Rattle.basics.specs.Lists.{listOf}
-use Rattle.kernel.specs.Lanes.{lane, chosen}
+use Rattle.lanes.specs.Lanes.{lane, chosen}
 use Rattle.blocks.proofs.Parts.{set-length, put-in, put-before, put-after}
 use Rattle.basics.proofs.Lists.{length-listOf, getD-listOf, listOf-cong}
 use Rattle.kernel.specs.Working.{Summed, Prepared, Filled, groupSum, spread, highest}

@@ -1,3 +1,2 @@
 pub mod Combine
-pub mod Lanes
 pub mod Working

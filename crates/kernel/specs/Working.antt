@@ -8,7 +8,7 @@ use lib.Dec.{ltb}
 use lib.ListN.{length, getD}
 use Rattle.gf256.specs.Field.{double, product, sum}
 use Rattle.kernel.specs.Combine.{nth}
-use Rattle.kernel.specs.Lanes.{lane, chosen}
+use Rattle.lanes.specs.Lanes.{lane, chosen}
 
 -- byte p of the sum of the blocks that begin at the starts, each times its weight
 abbrev pub combined : List ℕ → List ℕ → List ℕ → ℕ → ℕ

@@ -3,7 +3,6 @@ ghost use mathlib.Core.Path.{_≡_};
 ghost use Prim.Native.Nat.{ℕ, _+_, _*_, _/_, _%_, _≤_, _<_};
 ghost use lib.ListN.{length, getD};
 ghost use Rattle.kernel.specs.Working.{FirstZero, Zeroed, stepped, highest};
-use crate::lanes;
 use crate::plan::place;
 
 // The sum so far, one bit on.

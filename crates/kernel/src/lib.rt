@@ -11,7 +11,6 @@ ghost use Rattle.kernel.specs.Combine.{mixed, Holds, Rows, Nodes};
 ghost use Rattle.kernel.specs.Working.{combined, Sources, Zeroed, Filled, startOf};
 
 mod bits; // bits.rt: one block's part of a tile
-mod lanes; // lanes.rt: sixteen bytes at a time
 mod plan; // plan.rt: which sums the weights choose
 mod sums; // sums.rt: the sums of a tile
 

@@ -3,9 +3,8 @@ ghost use mathlib.Core.Path.{_≡_};
 ghost use Prim.Native.Nat.{_+_, _-_, _≤_, _<_};
 ghost use lib.ListN.{length, getD};
 ghost use Rattle.basics.specs.Lists.{listOf};
-ghost use Rattle.kernel.specs.Lanes.{lane};
+ghost use Rattle.lanes.specs.Lanes.{lane};
 ghost use Rattle.kernel.specs.Working.{Sources, Summed, Prepared, groupSum};
-use crate::lanes;
 
 // The n bytes of source q from place p on, but no more than 16.
 fn source(t: &[u8], starts: &[usize; 12], q: usize, p: usize, n: usize) -> [u8; 16]

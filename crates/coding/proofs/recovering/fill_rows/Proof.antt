@@ -17,20 +17,21 @@ abbrev μ-loop : tie.MeasureT-loop
 μ-loop rows₀ m nodes powers logarithms shares j₀ rows j = m - j
 
 loop-holds : tie.Need-loop-holds Inv-loop μ-loop
-loop-holds c = let at-start = c .before .before .before .before .before .before .before in (search needs, at-start .pre .1, λ u l. absurd (omega arith))
+loop-holds c = let at-start = c .before .before .before .before .before .before in (search needs, at-start .pre .1, λ u l. absurd (omega arith))
 
 shares-requires : tie.Need-shares-requires Inv-loop μ-loop
 shares-requires c κs =
-    let at-logarithms = c .before .before in
+    let at-logarithms = c .before in
     let at-powers = at-logarithms .before in
-    (at-powers .table .ensures, at-logarithms .table2 .ensures, at-powers .before .before .before .pre .2)
+    let pre = at-powers .before .before .before .pre in
+    (at-logarithms .table2 .ensures, pre .2, pre .3)
 
 node-row-requires : tie.Need-node-row-requires Inv-loop μ-loop
 node-row-requires c κs =
     let inside = c .before .before .before .loop-test .taken in
     let at-loop = c .before .before .before .before in
     let at-shares = at-loop .before in
-    let at-logarithms = at-shares .before .before .before in
+    let at-logarithms = at-shares .before .before in
     let at-powers = at-logarithms .before in
     let pre = at-powers .before .before .before .pre in
     (at-powers .table .ensures, at-logarithms .table2 .ensures, pre .2, omega arith, omega (arith, inside, pre .0), at-shares .shares .ensures)
@@ -42,7 +43,7 @@ loop-again c =
     let at-row = at-copy .before .before .before in
     let at-in = at-row .before .before .before .before in
     let at-loop = at-in .before in
-    let at-start = at-loop .before .before .before .before .before .before .before .before in
+    let at-start = at-loop .before .before .before .before .before .before .before in
     let inside = at-in .loop-test .taken in
     let j = at-loop .loop .j in
     let size = at-loop .loop .inv .1 in

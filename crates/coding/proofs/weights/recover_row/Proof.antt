@@ -1,58 +1,78 @@
 -- `coding::weights::recover_row` meets its contract. Assumes nothing.
-use mathlib.Core.Path.{_≡_, refl, sym, ap, _∙_}
-use Prim.Native.Nat.{_≤_, _-_, _+_}
-use native.Mathlib.Nat.{add-sub-cancel}
+use mathlib.Core.Path.{_≡_, refl, _∙_}
+use Prim.Native.Nat.{ℕ, suc, _≤_, _<_, _-_, _+_}
 use native.Mathlib.Omega.{arith}
 use lib.ListN.{length, getD}
 use Rattle.kernel.specs.Combine.{nth}
 use Rattle.code.specs.Decode as Decode
 use Rattle.blocks.proofs.Entries.{Entries, entries-none, entries-turn, Untouched, untouched-turn, zeros-at}
-use Rattle.coding.proofs.Weighing.{recover-turn}
+use Rattle.coding.proofs.Weighing.{points-apart, recover-turn}
 use borrow.Author.Needs.{needs}
 use Rattle.coding.proofs.weights.recover_row.Statement.{statement}
 use Rattle.coding.proofs.weights.recover_row.Tie as tie
 
 abbrev Inv-loop : tie.InvT-loop
-Inv-loop powers logarithms nodes shares j t k rest all r₀ q₀ r q = (q ≤ length nodes) × Entries 12 (Decode.recover (length nodes) (nth nodes) j) q r × Untouched q r
+Inv-loop powers logarithms nodes shares j t k all r₀ q₀ r q = (q ≤ length nodes) × Entries 12 (Decode.recover (length nodes) (nth nodes) j) q r × Untouched q r
 
 abbrev μ-loop : tie.MeasureT-loop
-μ-loop powers logarithms nodes shares j t k rest all r₀ q₀ r q = length nodes - q
+μ-loop powers logarithms nodes shares j t k all r₀ q₀ r q = length nodes - q
 
 loop-holds : tie.Need-loop-holds Inv-loop μ-loop
 loop-holds c = (search needs, entries-none _ _ _ refl, λ l h. zeros-at 12 l)
 
-sub-inverse : tie.Need-sub-inverse Inv-loop μ-loop
-sub-inverse c =
+others-requires : tie.Need-others-requires Inv-loop μ-loop
+others-requires c κs = let pre = c .before .pre in (pre .1, pre .2, λ l h d. pre .3 l h, pre .4, pre .5)
+
+scale-requires : tie.Need-scale-requires Inv-loop μ-loop
+scale-requires c κs = let pre = c .before .before .pre in (pre .1, pre .2 .few, pre .4, pre .5)
+
+over-requires : tie.Need-over-requires Inv-loop μ-loop
+over-requires c κs = (c .before .others .ensures .1, c .scale .ensures .1)
+
+sub-logarithm : tie.Need-sub-logarithm Inv-loop μ-loop
+sub-logarithm c =
     let at-loop = c .before .before in
-    at-loop .before .before .before .before .before .before .pre .2 .from (at-loop .loop .q) (omega arith)
+    at-loop .before .before .before .before .before .pre .2 .from (at-loop .loop .q) (omega (arith, c .before .loop-test .taken))
+
+sub-power : tie.Need-sub-power Inv-loop μ-loop
+sub-power c = omega (arith, c .before .logarithm .ensures .0)
+
+add-power : tie.Need-add-power Inv-loop μ-loop
+add-power c =
+    let in-loop = c .before .before .before in
+    let at-over = in-loop .before .before in
+    let share = at-over .before .before .before .before .pre .6 .at (in-loop .before .loop .q) (omega (arith, in-loop .loop-test .taken)) in
+    omega (arith, share .small)
+
+add-power-2 : tie.Need-add-power-2 Inv-loop μ-loop
+add-power-2 c =
+    let in-loop = c .before .before .before in
+    let at-over = in-loop .before .before in
+    let share = at-over .before .before .before .before .pre .6 .at (in-loop .before .loop .q) (omega (arith, in-loop .loop-test .taken)) in
+    omega (arith, share .small, at-over .over .ensures .1)
 
 loop-again : tie.Need-loop-again Inv-loop μ-loop
 loop-again c =
-    let at-share = c .before in
-    let at-own = at-share .before .before in
-    let at-loop = at-own .before .before .before in
-    let at-all = at-loop .before in
-    let at-others = at-all .before in
-    let at-rest = at-others .before in
-    let at-scale = at-rest .before in
-    let at-nodes = at-scale .before in
-    let at-start = at-nodes .before in
-    let pre = at-start .pre in
+    let at-log = c .before .before in
+    let in-loop = at-log .before .before in
+    let at-loop = in-loop .before in
+    let at-over = at-loop .before in
+    let at-scale = at-over .before in
+    let at-others = at-scale .before in
+    let at-nodes = at-others .before in
+    let start = at-nodes .before in
+    let pre = start .pre in
+    let nodes = start .args .nodes .now in
+    let j = start .args .j in
     let q = at-loop .loop .q in
-    let inside = at-own .before .before .loop-test .taken in
-    let share-here = ap (λ i. getD (at-start .args .shares .now) i 0) (sym (add-sub-cancel q 1)) ∙ pre .6 (q + 1) (omega arith) (omega (arith, inside)) in
-    let weight : c .multiply3 .result ≡ Decode.recover (length (at-start .args .nodes .now)) (nth (at-start .args .nodes .now)) (at-start .args .j) (q + 1) =
-    c .multiply3 .ensures
-    ∙ rw (
-      at-share .multiply2 .ensures,
-      at-own .inverse2 .ensures,
-      at-all .multiply .ensures,
-      at-others .others .ensures,
-      at-rest .inverse .ensures,
-      at-scale .scale .ensures,
-      share-here,
-    )
-    (recover-turn (at-start .args .nodes .now) (pre .2) (λ l. omega (arith, at-nodes .shared-slice-known .given l)) (at-start .args .j) (pre .4) (pre .5) (pre .3) q (omega (arith, inside))) in
+    let inside = in-loop .loop-test .taken in
+    let bytes : (l : ℕ) → getD nodes l 0 < 256 = λ l. omega (arith, at-nodes .shared-slice-known .given l) in
+    let own = at-log .logarithm .ensures in
+    let weight : c .power .result ≡ Decode.recover (length nodes) (nth nodes) j (q + 1) =
+    c .power .ensures
+    ∙ recover-turn nodes (pre .2) bytes j (pre .4) (pre .5) (pre .3) q (omega (arith, inside)) _ (at-log .logarithm .result) (at-over .over .result) (own .0) (pre .6 .at q (omega (arith, inside)))
+    (own .1 (points-apart nodes (pre .2) bytes j q (pre .4) (pre .5) (omega (arith, inside)) (pre .3 q (omega (arith, inside))) .0))
+    (at-over .over .ensures .0 ∙ rw (at-others .others .ensures .0, at-scale .scale .ensures .0)) in
     (search needs, entries-turn _ _ _ _ _ (omega (arith, inside, pre .2 .few)) weight (at-loop .loop .inv .1), untouched-turn q (at-loop .loop .r) _ (at-loop .loop .inv .2))
 
 returns : tie.Need-returns Inv-loop μ-loop
@@ -66,17 +86,19 @@ recover-row-spec =
     μ-loop
     (λ c. search needs)
     (λ c. search needs)
-    (λ c κs. search needs)
-    (λ c κs. search needs)
     (λ c. search needs)
-    (λ c κs. search needs)
-    (λ c κs. search needs)
+    others-requires
+    scale-requires
+    over-requires
     loop-holds
     (λ c. search needs)
-    sub-inverse
+    sub-logarithm
     (λ c κs. search needs)
     (λ c. search needs)
-    (λ c κs. search needs)
+    (λ c. search needs)
+    sub-power
+    add-power
+    add-power-2
     (λ c κs. search needs)
     (λ c. search needs)
     (λ c. search needs)

@@ -1,4 +1,4 @@
--- The code of lanes.rt: sixteen bytes that are read, and the sums of four, at all their places. Assumes nothing.
+-- Sixteen bytes at a time: sixteen bytes that are read, and the sums of four, at all their places. Assumes nothing.
 use mathlib.Core.List.{List, [], _∷_, _++_}
 use mathlib.Core.Logic.{_⊎_, inl, inr}
 use mathlib.Core.Path.{_≡_, refl, sym, ap, _∙_}
@@ -13,7 +13,7 @@ use borrow.Author.Tests.{lt-ltb, le-ltb}
 use Rattle.gf256.proofs.Xor.{xors}
 use Rattle.blocks.specs.Blocks.{part, setPart}
 use Rattle.basics.specs.Lists.{listOf}
-use Rattle.kernel.specs.Lanes.{lane, chosen}
+use Rattle.lanes.specs.Lanes.{lane, chosen}
 use Rattle.blocks.proofs.Parts.{part-length, part-at, set-length, put-in, put-before}
 use Rattle.blocks.proofs.Tabled.{listOf-is}
 

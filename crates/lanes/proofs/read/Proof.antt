@@ -1,14 +1,14 @@
--- `kernel::lanes::read` meets its contract: the bytes that are there, or sixteen of them. Assumes nothing.
+-- `lanes::read` meets its contract: the bytes that are there, or sixteen of them. Assumes nothing.
 use mathlib.Core.Path.{sym, _∙_}
 use native.Mathlib.Nat.{add-sub-cancel-left}
 use native.Mathlib.Omega.{arith}
 use lib.Seq.{length-take-le}
 use Rattle.blocks.specs.Blocks.{part}
-use Rattle.kernel.proofs.Sixteen.{read-some, read-all}
+use Rattle.lanes.proofs.Sixteen.{read-some, read-all}
 use Rattle.blocks.proofs.Parts.{lent-length}
 use borrow.Author.Needs.{needs}
-use Rattle.kernel.proofs.lanes.read.Statement.{statement}
-use Rattle.kernel.proofs.lanes.read.Tie as tie
+use Rattle.lanes.proofs.read.Statement.{statement}
+use Rattle.lanes.proofs.read.Tie as tie
 
 slice-aggregate-copy : tie.Need-slice-aggregate-copy
 slice-aggregate-copy c = sym (length-take-le (c .before .before .before .args .n) _ (omega arith))

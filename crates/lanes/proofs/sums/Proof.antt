@@ -1,12 +1,12 @@
--- `kernel::lanes::sums` meets its contract: after i turns the sums of the first i places are there. Assumes nothing.
+-- `lanes::sums` meets its contract: after i turns the sums of the first i places are there. Assumes nothing.
 use mathlib.Core.Path.{_≡_}
 use Prim.Native.Nat.{_≤_, _-_}
 use native.Mathlib.Omega.{arith}
 use lib.ListN.{length-set}
 use borrow.Author.Needs.{needs}
-use Rattle.kernel.proofs.Sixteen.{Summing, stored, fifteen, summing-none, summing-turn, summing-all}
-use Rattle.kernel.proofs.lanes.sums.Statement.{statement}
-use Rattle.kernel.proofs.lanes.sums.Tie as tie
+use Rattle.lanes.proofs.Sixteen.{Summing, stored, fifteen, summing-none, summing-turn, summing-all}
+use Rattle.lanes.proofs.sums.Statement.{statement}
+use Rattle.lanes.proofs.sums.Tie as tie
 
 abbrev Inv-loop : tie.InvT-loop
 Inv-loop s₀ w x y z i₀ s i = (i ≤ 16) × Summing w x y z i s

@@ -1,4 +1,4 @@
--- `kernel::lanes::put` meets its contract: the part comes back as `setPart` puts it. Assumes nothing.
+-- `lanes::put` meets its contract: the part comes back as `setPart` puts it. Assumes nothing.
 use mathlib.Core.Path.{_≡_, sym, _∙_}
 use Prim.Native.Nat.{_-_}
 use native.Mathlib.Omega.{arith}
@@ -6,10 +6,10 @@ use lib.ListN.{length}
 use lib.Seq.{length-take-le, take-all}
 use Rattle.blocks.specs.Blocks.{setPart}
 use Rattle.blocks.proofs.Parts.{lent-length}
-use Rattle.kernel.proofs.Sixteen.{put-is}
+use Rattle.lanes.proofs.Sixteen.{put-is}
 use borrow.Author.Needs.{needs}
-use Rattle.kernel.proofs.lanes.put.Statement.{statement}
-use Rattle.kernel.proofs.lanes.put.Tie as tie
+use Rattle.lanes.proofs.put.Statement.{statement}
+use Rattle.lanes.proofs.put.Tie as tie
 
 slice-aggregate-copy : tie.Need-slice-aggregate-copy
 slice-aggregate-copy c = sym (length-take-le _ _ (omega arith))

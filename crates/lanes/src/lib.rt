@@ -4,7 +4,7 @@ ghost use Prim.Native.Nat.{ℕ, _+_, _/_, _%_, _≤_, _<_};
 ghost use lib.ListN.{length, getD};
 ghost use Rattle.blocks.specs.Blocks.{part};
 ghost use Rattle.basics.specs.Lists.{listOf};
-ghost use Rattle.kernel.specs.Lanes.{lane, chosen};
+ghost use Rattle.lanes.specs.Lanes.{lane, chosen};
 use blocks::copy;
 
 // The sixteen bytes of t from a on. (By a loop of its own, so that the machine moves them at once.)

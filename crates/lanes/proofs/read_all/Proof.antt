@@ -1,4 +1,4 @@
--- `kernel::lanes::read_all` meets its contract: after i turns the first i bytes are there. Assumes nothing.
+-- `lanes::read_all` meets its contract: after i turns the first i bytes are there. Assumes nothing.
 use mathlib.Core.Path.{sym}
 use Prim.Native.Nat.{_≤_, _-_}
 use native.Mathlib.Omega.{arith}
@@ -7,8 +7,8 @@ use Rattle.blocks.specs.Blocks.{part}
 use Rattle.blocks.proofs.Fill.{Filled, filled-none, filled-turn, filled-all}
 use Rattle.blocks.proofs.Parts.{part-length, part-at}
 use borrow.Author.Needs.{needs}
-use Rattle.kernel.proofs.lanes.read_all.Statement.{statement}
-use Rattle.kernel.proofs.lanes.read_all.Tie as tie
+use Rattle.lanes.proofs.read_all.Statement.{statement}
+use Rattle.lanes.proofs.read_all.Tie as tie
 
 abbrev Inv-loop : tie.InvT-loop
 Inv-loop t a r₀ i₀ r i = (i ≤ 16) × Filled i (part a 16 t) (replicate 16 0) r

@@ -1,4 +1,4 @@
--- Sixteen bytes at a time, and the sums of four bytes: these only the kernel's own functions need. Assumes nothing.
+-- Sixteen bytes at a time, and the sums of four bytes. Only the kernel needs these. Assumes nothing.
 use mathlib.Core.Bool.{cond}
 use mathlib.Core.List.{List}
 use Prim.Native.Nat.{ℕ, _+_, _*_, _/_, _%_}

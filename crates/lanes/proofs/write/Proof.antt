@@ -1,11 +1,11 @@
--- `kernel::lanes::write` meets its contract: after i turns the first i bytes are there. Assumes nothing.
+-- `lanes::write` meets its contract: after i turns the first i bytes are there. Assumes nothing.
 use mathlib.Core.Path.{refl}
 use Prim.Native.Nat.{_≤_, _-_}
 use native.Mathlib.Omega.{arith}
 use Rattle.blocks.proofs.Fill.{Filled, filled-none, filled-turn, filled-all}
 use borrow.Author.Needs.{needs}
-use Rattle.kernel.proofs.lanes.write.Statement.{statement}
-use Rattle.kernel.proofs.lanes.write.Tie as tie
+use Rattle.lanes.proofs.write.Statement.{statement}
+use Rattle.lanes.proofs.write.Tie as tie
 
 abbrev Inv-loop : tie.InvT-loop
 Inv-loop out₀ bytes i₀ out i = (i ≤ 16) × Filled i bytes out₀ out
