@@ -1,7 +1,6 @@
 pub mod Changing
 pub mod Elem
 pub mod Frees
-pub mod PickEntry
 pub mod Pure
 pub mod ReadEntry
 pub mod Seeing

@@ -2,6 +2,7 @@
 --     Side         the table's records, where one is looked for, what is taken out of it; and what `take` and `put` say
 --     Take, Put    the contracts of these two
 --     takes, puts  a call of each on a `&mut` table, as a step of a walk.        looks      a call of `take` on a `&` table
+--     lends        a call of `put` on a `&mut` table that is used again
 --     asks, asks2, asks3       a call by value of one parameter, of two, and of three
 --     number       the machine value of a number that is known.        the-value      the machine value of a record, by its type
 use mathlib.Core.Path.{_≡_, refl, sym, _∙_, ap, subst}
@@ -19,20 +20,21 @@ use prog.Wp.{Heap, Env, Calls, Loops}
 use ghost.Atoms.{Atoms, sem}
 use contract.Monad.{fact}
 use sound.WpLaws.{FmC}
-use types.Kit.{Given, Item, Post, Seq, runs, lands, ‵, raw, _⊛_, some, later, _$_, _∵_, !, qed, move, keep, drop, split, join, fsplit, fjoin, feqI, feqL, pick, show, use1, frame, await, done}
+use types.Kit.{Given, Item, Post, Seq, runs, lands, ‵, raw, _⊛_, some, later, _$_, _∵_, !, qed, move, keep, drop, split, join, fsplit, fjoin, feqI, feqL, pick, show, use1, use3, frame, await, done}
 use types.Run.{Opds}
 use types.Share.{arr-parts}
 use types.Tokens.{lft-new, lft-end, lent-back}
 use denote.RattleType.{RattleType}
 use denote.Shadow.{pureI}
 use denote.Laws.{Is}
-use denote.Memory.{shares}
+use denote.Memory.{mem, shares}
+use types.SemTy.{Arr, cells}
 use denote.Plain.{nothing-tells}
 use denote.Builtin.{usize, unit}
 use denote.Ref.{RefT, now}
 use denote.Slice.{sliceVal, MutSlice, ShrSlice, Room, finally, heres, codedHoleys, at-slice, shr-slice-copy}
-use denote.Lend.{Held, lends-shr-slice}
-use denote.Index.{opens-slice, closes-slice}
+use denote.Lend.{Held, lends-shr-slice, lends-slice, slice-back}
+use denote.Index.{row, whole-in, whole-out, opens-slice, closes-slice}
 use denote.Steps.{only, owned, heard, nothing}
 use denote.Triple.Spec.{tripleOf}
 use denote.Triple.Statement.{Contract, Triple}
@@ -64,17 +66,23 @@ pub record Back (F : Side) : Type 2 where
   pub y : Rec Y
   pub Puts : List (F .S .Denot) → Y .Denot → List (F .S .Denot) → Type 0
 
--- a struct of what is put into the first table, what is put into the second, and an answer
-pub record Both (X Y A O : RattleType) (x : Rec X) (y : Rec Y) (a : Rec A) : Type 2 where
+-- what is taken next out of the same table, by what was taken first
+abbrev pub next : (F : Side) (X : RattleType) → Rec X → (List (F .S .Denot) → F .X .Denot → X .Denot → Type 0) → Side
+next F X x Took = record { S = F .S; P = F .X; X = X; s = F .s; p = F .x; x = x; Took = Took }
+
+-- a struct of what is put into the first table, what is put into it then, what is put into the second, and an answer
+pub record Parts (X Z Y A O : RattleType) (x : Rec X) (z : Rec Z) (y : Rec Y) (a : Rec A) : Type 2 where
   pub name : Sym
   pub first : O .Denot → X .Denot
+  pub then : O .Denot → Z .Denot
   pub second : O .Denot → Y .Denot
   pub answer : O .Denot → A .Denot
   pub apart : (r : O .Denot) (w : Val) → Is O r (w ∷ [])
-      → (w ≡ vstruct (vcons (x .val (first r)) (vcons (y .val (second r)) (vcons (a .val (answer r)) vnil))))
-      × (Is X (first r) (x .val (first r) ∷ []) × (Is Y (second r) (y .val (second r) ∷ []) × Is A (answer r) (a .val (answer r) ∷ [])))
+      → (w ≡ vstruct (vcons (x .val (first r)) (vcons (z .val (then r)) (vcons (y .val (second r)) (vcons (a .val (answer r)) vnil)))))
+      × (Is X (first r) (x .val (first r) ∷ []) × (Is Z (then r) (z .val (then r) ∷ [])
+      × (Is Y (second r) (y .val (second r) ∷ []) × Is A (answer r) (a .val (answer r) ∷ []))))
   pub typed : {M : Type 1} (𝓤 : URA M) (H : Heap 𝓤) (A′ : Atoms 𝓤) (W : Given 𝓤 H A′) (r : O .Denot) (w : Val) → Is O r (w ∷ [])
-      → T (hasTy (tyStruct name (tcons (x .ty) (tcons (y .ty) (tcons (a .ty) tnil)))) w) × WT w
+      → T (hasTy (tyStruct name (tcons (x .ty) (tcons (z .ty) (tcons (y .ty) (tcons (a .ty) tnil))))) w) × WT w
 
 -- contracts by value, of one parameter, of two, and of three
 module _ (Q P : RattleType) (Said : Q .Denot → P .Denot → Type 0) where
@@ -285,3 +293,24 @@ module _ {M : Type 1} {𝓤 : URA M} {H : Heap 𝓤} {A : Atoms 𝓤} {K : Type 
       (λ len. move t (1 ∷ []) $ drop t $ move t (1 ∷ 0 ∷ []) $
       subst (λ (w′ : Val). Seq K W (‵ (flft κ q) ∷ ‵ (finally (F .S) γ zs) ∷ Γ) (lands C Λ E d w′ rest k))
       (sym (ap only (nothing-tells (u .0) (w ∷ []) (u .1 .0)))) (then zs len (u .1 .1))))))
+
+module _ {M : Type 1} {𝓤 : URA M} {H : Heap 𝓤} {A : Atoms 𝓤} {K : Type 0} {W : Given 𝓤 H A} {Γ : List (Item 𝓤)}
+    {E : Env 𝓤 H} {C : Calls 𝓤 H} {Λ : Loops 𝓤 H} {k : Post 𝓤 H} {f : Name} {d : Place′} {xs : List Operand} {rest : Body} where
+  -- the table is lent as `&mut` for a lifetime of the call, and is back at zs where the result is stored
+  pub lends : K → (F : Side) (B : Back F) → FmC 𝓤 H (W .laws) C → Triple 𝓤 (C f) (Put F B 𝓤 H A) → {κ : Lft} {q : Share} {γ : GName} (b o : ℕ)
+      (ys : List (F .S .Denot)) → Room (F .S) (length ys)
+      → (y : B .Y .Denot) (v : Val) → Is (B .Y) y (v ∷ [])
+      → ((ν : ℕ) (δ : GName) → Opds K W ((‵ (flft (ν ∷ []) fullShare) ⊛ ‵ (MutSlice (named 0) (ν ∷ []) (F .S) .own (refAt b o ys δ) (sliceAt b o ys ∷ []))) ∷
+      ‵ (flent (ν ∷ []) (Held (F .S) (length ys) b o δ)) ∷ ‵ (fobor κ q (Held (F .S) (length ys) b o γ)) ∷
+      ‵ (fobs γ (codedHoleys (F .S) .code (heres (F .S) ys))) ∷ ‵ (fauth γ (codedHoleys (F .S) .code (heres (F .S) ys))) ∷ Γ) E xs (sliceAt b o ys ∷ v ∷ []))
+      → ((zs : List (F .S .Denot)) → length zs ≡ length ys → B .Puts ys y zs → Seq K W (Open (F .S) κ q γ b o zs Γ) (lands C Λ E d vunit rest k))
+      → Seq K W (Open (F .S) κ q γ b o ys Γ) (runs C Λ E (seq (call f xs d) rest) k)
+  lends t F B fm known b o ys room y v y-is opds then =
+      opens-slice t tt (F .S) ys b o $ use1 W (‵ (cells (mem (F .S)) ys b o)) (whole-in 𝓤 H A W (F .S) ys b o) $ lft-new t tt (λ ν. move t (1 ∷ []) $
+      use1 W (later (some (λ (δ : GName). ‵ (MutSlice (named 0) (ν ∷ []) (F .S) .own (refAt b o ys δ) (sliceAt b o ys ∷ [])) ⊛ ‵
+      (flent (ν ∷ []) (Held (F .S) (length ys) b o δ))))) (lends-slice 𝓤 H A W (F .S) (named 0) (ν ∷ []) ys b o room) $ await t tt $ pick t (λ δ.
+      split t $ fsplit t $ drop t $ fsplit t $ move t (0 ∷ 1 ∷ 3 ∷ []) $
+      puts t F B fm known b o ys room y v y-is (opds ν δ) (λ zs len put.
+      lft-end t tt $ move t (0 ∷ 2 ∷ 1 ∷ []) $ use3 W (later (‵ (Arr (mem (F .S)) (length ys) .lies zs b o))) (slice-back 𝓤 H A W (F .S) (ν ∷ []) δ zs (length ys) b o) $
+      await t tt $ fsplit t $ drop t $ use1 W (‵ (row (F .S) fullShare zs b o)) (whole-out 𝓤 H A W (F .S) zs b o) $ closes-slice t tt (F .S) ys zs len b o $
+      then zs len put)))

@@ -59,21 +59,21 @@ guarded-at false j c call s = refl
 module _ (q : ReadRequest) (f : Found) (out b : List ℕ) where
   pub reads-none : (f .len ≡ q .z .n → ⊥) → ReadsFound f out b q (Refused OutOfLimits) out
   unfolding guard
-  reads-none ne nodes found clients s d =
+  reads-none ne nodes l at found clients s d =
       record { said = rw (ne-eqb (length (nodesIn nodes)) (q .z .n) (λ e. ne (found .len ∙ sym (length-map nodes nodeOf) ∙ e))) refl; left = refl }
 
   pub reads : {a : Answer} {out′ : List ℕ} → f .len ≡ q .z .n
       → ((client : Client) (d : List ℕ) → Meets (readInto (q .z) (q .i) out (local (nodeOf (f .node)) client b d)) a out′ (local (nodeOf (f .node)) client b d) (out′ ≡ out))
       → ReadsFound f out b q a out′
   unfolding step
-  reads {a} {out′} en one nodes found clients s d =
+  reads {a} {out′} en one nodes l at found clients s d =
       let t = stripeWith (nodesIn nodes) clients b s d in
       let m = one (clientAt clients 0) d in
       let n : eqb (length (nodesIn nodes)) (q .z .n) ≡ true = eq-eqb _ _ (length-map nodes nodeOf ∙ sym (found .len) ∙ en) in
       rw n (record {
         said =
             ap (answered (answerOf a out′)) (sym (put-back (q .i) 0 t))
-            ∙ ap (λ o. answered (o .answer) (putNode (q .i) 0 (o .after) t)) (rw (found .node) at (m .said))
+            ∙ ap (λ o. answered (o .answer) (putNode (q .i) 0 (o .after) t)) (rw (found .node, at) at (m .said))
             ∙ guarded-at (not (eqb (length out) (q .z .b))) (q .i) 0 (Writing.read (q .z) (q .i)) t;
         left = m .left;
       })
@@ -85,12 +85,12 @@ module _ (q : Request) (f : Found) (t : TakenClient) (b s d value : List ℕ) wh
   unfolding guard
   refuses h ne = rw h (record {
     len = refl;
-    meets = λ nodes clients found taken.
-        let nodes-same : setAt nodes (f .sought .j) (f .node) ≡ nodes = rw (found .sought) (found .same) in
+    meets = λ nodes clients l seen found taken.
+        let nodes-same : setAt nodes (f .looked .sought .j) (f .node) ≡ nodes = rw (found .looked) (found .same) in
         let clients-same : setAt clients (t .c) (t .client) ≡ clients = rw (taken .c-is) (taken .same) in
         record {
           said = rw (
-            ← map-set nodeOf nodes (f .sought .j) (f .node),
+            ← map-set nodeOf nodes (f .looked .sought .j) (f .node),
             ← map-set clientOf clients (t .c) (t .client),
             nodes-same,
             clients-same,
@@ -101,21 +101,22 @@ module _ (q : Request) (f : Found) (t : TakenClient) (b s d value : List ℕ) wh
   })
 
   pub steps : {v : Returned} {r : Stepped} (b′ d′ : List ℕ) → After v f t r → f .len ≡ q .z .n → t .len ≡ q .z .m
-      → StepsAs (q .z) (q .call) (f .seen) (f .node) (t .client) value b s d r b′ d′ → StepsFound f t b s d value q v b′ s d′
+      → StepsAs (q .z) (q .call) (f .looked .seen) (f .node) (t .client) value b s d r b′ d′ → StepsFound f t b s d value q v b′ s d′
   unfolding guard
   steps {v} {r} b′ d′ h en em one = rw (h .is) (record {
     len = refl;
-    meets = λ nodes clients found taken.
+    meets = λ nodes clients l seen found taken.
         let c = caller (q .call) in
         let j = target (q .z) (q .call) (clientOf (t .client)) in
         let n : length nodes ≡ q .z .n = sym (found .len) ∙ en in
-        let m = one (nodesIn nodes) (clientsIn clients) (record { client-is = taken .client; node-is = found .node; seen-is = λ all _. found .sees all n }) in
-        rw (fits nodes clients (q .z .n) (q .z .m) n (sym (taken .len) ∙ em), found .sought, taken .c-is) (record {
+        let told = rw (← found .looked) at (seen .sees) in
+        let m = one (nodesIn nodes) (clientsIn clients) (record { client-is = taken .client; node-is = rw (seen .sought) at (found .node); seen-is = λ all _. told all n }) in
+        rw (fits nodes clients (q .z .n) (q .z .m) n (sym (taken .len) ∙ em), found .looked, seen .sought, taken .c-is) (record {
           said = m .said;
           left = left-map (r .answer) (λ e. (
             e .1 .1 .0,
             (
-              ap (setAt nodes j) (e .0) ∙ found .same,
+              ap (setAt nodes j) (e .0) ∙ (rw (seen .sought) at (found .same)),
               (
                 ap (setAt clients c) (e .1 .0) ∙ taken .same,
                 (e .1 .1 .1 .0, (refl, e .1 .1 .1 .1)),

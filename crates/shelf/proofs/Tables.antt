@@ -1,38 +1,40 @@
 -- What the loops over the tables take out, and leave. Assumes nothing.
---     client-took, node-took       the record is taken out; and what is seen of all nodes.        client-left, node-left      the record is put back
-use mathlib.Core.Bool.{Bool, true, false, cond, _&&_}
+--     client-took, node-took       the record is taken out.        looked-took      what is seen of all nodes
+--     one-left     the record is put back.        others-left      what becomes of the others
+use mathlib.Core.Bool.{Bool, true, false, cond}
 use mathlib.Core.List.{List, map}
 use mathlib.Core.Logic.{_⊎_, inl, inr}
 use mathlib.Core.Path.{_≡_, refl, sym, ap, _∙_, subst}
 use Prim.Native.Nat.{ℕ, zero, suc, _+_, _-_, _<_, _≤_}
-use native.Mathlib.Nat.{add-zero, zero-add}
+use native.Mathlib.Decide.{decLt}
+use native.Mathlib.Nat.{add-zero, zero-add, min-le-right}
 use native.Mathlib.Omega.{arith}
-use lib.Dec.{eqb, leb, ltb}
+use lib.Dec.{eqb, leb}
 use lib.ListN.{length, getD, take, length-map, List·getD-map}
 use lib.Seq.{ext-getD, take-length, take-suc}
-use borrow.Author.Tests.{leb-true, leb-false, le-leb, lt-ltb, le-ltb, eqb-true, eqb-false, eq-eqb, ne-eqb}
+use borrow.Author.Tests.{leb-true, leb-false, eq-eqb, ne-eqb}
 use Rattle.lent.specs.Ranges.{seenIn, Changed}
-use Rattle.machine.specs.Stripe.{nodeAt}
-use Rattle.basics.specs.Lists.{setAt}
+use Rattle.basics.specs.Lists.{elementAt, setAt}
 use Rattle.machine.proofs.View.{setAt-length}
 use Rattle.records.specs.declared.ClientRecord.{ClientRecord}
 use Rattle.records.specs.declared.NodeRecord.{NodeRecord}
 use Rattle.records.specs.Client.{freshClient}
-use Rattle.records.specs.Node.{Node, failedNode}
+use Rattle.records.specs.Node.{failedNode}
 use Rattle.records.specs.View.{clientOf, nodeOf}
 use Rattle.step.specs.View.{blankClient}
 use Rattle.stripe.specs.declared.seen.Change.{Change}
+use Rattle.stripe.specs.declared.seen.Change.the-variants.{Keep, Expire, Restore, Weaken}
 use Rattle.stripe.specs.Seen.{Sees, changedAt, endOf, firstOf}
 use Rattle.stripe.specs.View.{blankRecord}
 use Rattle.stripe.proofs.Applied.{applied-is}
 use Rattle.stripe.proofs.Seeing.{seenOf, seen-last, seen-none, sees-all}
-use Rattle.shelf.specs.declared.Back.{Back}
 use Rattle.shelf.specs.declared.Found.{Found}
+use Rattle.shelf.specs.declared.Looked.{Looked}
+use Rattle.shelf.specs.declared.Others.{Others}
 use Rattle.shelf.specs.declared.Sought.{Sought}
 use Rattle.shelf.specs.declared.TakenClient.{TakenClient}
-use Rattle.shelf.specs.Ranges.{placeOf, endAt, isAt, clientBegun, clientSeen, foundBegun, foundSeen, firstSought, endSought, touches, keepsOthers, firstBack, endBack, chosen, PutsNode}
-use Rattle.shelf.specs.Table.{ClientTaken, NodeFound, PutBack, PutClient, nodesIn}
-use Rattle.shelf.proofs.Cases.{false-true}
+use Rattle.shelf.specs.Ranges.{placeOf, endAt, clientBegun, clientSeen, lookedBegun, lookedSeen, endLooked, foundBegun, foundSeen}
+use Rattle.shelf.specs.Table.{ClientTaken, NodeFound, NodesSeen, PutOthers, nodesIn}
 use Rattle.shelf.proofs.Lists.{getD-any, set-item, element-in, element-past, set-in, set-past}
 
 -- ---- where the loops begin and end
@@ -47,15 +49,24 @@ ends-in j n = by (leb j n) refl
 pub client-ends : (c n : ℕ) (t : TakenClient) → clientBegun c n t → endAt (t .c) (t .len) ≤ n
 client-ends c n t b = rw (← b .1 .0) (ends-in (t .c) (t .len))
 
-ends-if : (t : Bool) (j n : ℕ) → (cond t n (endAt j n) ≤ n) × (cond t (endAt j n) n ≤ n)
-ends-if true j n = (omega arith, ends-in j n)
-ends-if false j n = (ends-in j n, omega arith)
+pub node-ends : (l : Looked) (n : ℕ) (f : Found) → foundBegun l n f → endAt (f .looked .sought .j) (f .len) ≤ n
+node-ends l n f b = rw (← b .1 .0) (ends-in (f .looked .sought .j) (f .len))
 
-pub node-ends : (q : Sought) (n : ℕ) (f : Found) → foundBegun q n f → endSought (f .sought) (f .len) ≤ n
-node-ends q n f b = rw (← b .1 .0) (ends-if (f .sought .all) (f .sought .j) (f .len) .0)
+pub looked-ends : (q : Sought) (n : ℕ) (l : Looked) → lookedBegun q n l → endLooked l ≤ n
+looked-ends q n l b = rw (← b .1 .0) (by (l .sought .all))
+  where
+    by : (t : Bool) → cond t (l .len) 0 ≤ l .len
+    by true = omega arith
+    by false = omega arith
 
-pub back-ends : (b : Back) (n : ℕ) → endBack b n ≤ n
-back-ends b n = ends-if (keepsOthers b) (b .j) n .1
+pub others-ends : (o : Others) (n : ℕ) → endOf (o .change) n ≤ n
+others-ends o n = by (o .change)
+  where
+    by : (t : Change) → endOf t n ≤ n
+    by Keep = omega arith
+    by (Expire c) = omega arith
+    by (Restore x c expired) = min-le-right x n
+    by (Weaken k c) = omega arith
 
 -- one turn if the table has record j, and none if not
 turns : (j n : ℕ) → ((endAt j n - placeOf j ≡ 1) × ((1 ≤ j) × (j ≤ n))) ⊎ ((endAt j n - placeOf j ≡ 0) × (1 ≤ j → n < j))
@@ -71,29 +82,57 @@ turns (suc j) n = by (leb (suc j) n) refl
     by true h = inl (rw h (omega arith), (omega arith, leb-true (suc j) n h))
     by false h = inr (rw h (omega arith), λ _. leb-false (suc j) n h)
 
--- ---- the table of the clients
+-- ---- one record
+
+-- what no turn touches
+module _ {S X G : Type 0} (see : X → ℕ → S → X) (d : S) (g : X → G) (kept : (x : X) (i : ℕ) (s : S) → g (see x i s) ≡ g x) (x : X) (ys : List S) where
+  stays : (a k : ℕ) → g (seenIn see d x ys a k) ≡ g x
+  stays a zero = refl
+  stays a (suc k) = kept (seenIn see d x ys a k) (a + k) (getD ys (a + k) d) ∙ stays a k
+
+-- record j of a table of n is taken out; what stands where it is not there is as it was
+module _ {S X B : Type 0} (of : S → B) (none : B) (see : X → ℕ → S → X) (item : X → S) (shown : (x : X) (i : ℕ) (s : S) → item (see x i s) ≡ s) (d : S)
+    (ys : List S) (j n : ℕ) (n-is : n ≡ length ys) (x : X) (begun : of (item x) ≡ none) where
+  took : (of (item (seenIn see d x ys (placeOf j) (endAt j n - placeOf j))) ≡ elementAt none (map of ys) j)
+      × (setAt ys j (item (seenIn see d x ys (placeOf j) (endAt j n - placeOf j))) ≡ ys)
+  took = by (turns j n)
+    where
+      by : ((endAt j n - placeOf j ≡ 1) × ((1 ≤ j) × (j ≤ n))) ⊎ ((endAt j n - placeOf j ≡ 0) × (1 ≤ j → n < j))
+          → (of (item (seenIn see d x ys (placeOf j) (endAt j n - placeOf j))) ≡ elementAt none (map of ys) j)
+          × (setAt ys j (item (seenIn see d x ys (placeOf j) (endAt j n - placeOf j))) ≡ ys)
+      by (inl h) =
+          let is : item (seenIn see d x ys (placeOf j) 1) ≡ getD ys (placeOf j) d = shown x (placeOf j + 0) (getD ys (placeOf j + 0) d) ∙ ap (λ i. getD ys i d) (add-zero (placeOf j)) in
+          rw (h .0) (ap of is ∙ element-in of ys j d none (h .1 .0) (omega (arith, h .1 .1, n-is)), ap (setAt ys j) is ∙ set-in ys j d (h .1 .0))
+      by (inr h) =
+          let past : 1 ≤ j → length ys < j = λ one. omega (arith, n-is, h .1 one) in
+          rw (h .0) (begun ∙ sym (element-past (map of ys) j none (λ one. omega (arith, length-map ys of, past one))), set-past ys j (item x) past)
 
 pub client-took : (ys : List ClientRecord) (c : ℕ) (t : TakenClient) → clientBegun c (length ys) t
     → ClientTaken ys c (seenIn clientSeen blankClient t ys (placeOf (t .c)) (endAt (t .c) (t .len) - placeOf (t .c)))
-client-took ys c t b = by (turns (t .c) (t .len))
-  where
-    p : ℕ
-    p = placeOf (t .c)
+client-took ys c t b =
+    let out = took clientOf freshClient clientSeen (λ x. x .client) (λ x i s. refl) blankClient ys (t .c) (t .len) (b .1 .0) t (b .1 .1) in
+    let a = placeOf (t .c) in
+    let k = endAt (t .c) (t .len) - placeOf (t .c) in
+    record {
+      c-is = stays clientSeen blankClient (λ x. x .c) (λ x i s. refl) t ys a k ∙ b .0;
+      len = stays clientSeen blankClient (λ x. x .len) (λ x i s. refl) t ys a k ∙ b .1 .0;
+      client = rw (← b .0) (out .0);
+      same = rw (← b .0) (out .1);
+    }
 
-    by : ((endAt (t .c) (t .len) - p ≡ 1) × ((1 ≤ t .c) × (t .c ≤ t .len))) ⊎ ((endAt (t .c) (t .len) - p ≡ 0) × (1 ≤ t .c → t .len < t .c))
-        → ClientTaken ys c (seenIn clientSeen blankClient t ys p (endAt (t .c) (t .len) - p))
-    by (inl h) = rw (h .0, add-zero p) (record {
-      c-is = b .0;
-      len = b .1 .0;
-      client = rw (← b .0) (element-in clientOf ys (t .c) blankClient freshClient (h .1 .0) (omega (arith, h .1 .1, b .1 .0)));
-      same = rw (← b .0) (set-in ys (t .c) blankClient (h .1 .0));
-    })
-    by (inr h) = rw (h .0) (record {
-      c-is = b .0;
-      len = b .1 .0;
-      client = b .1 .1 ∙ sym (element-past (map clientOf ys) c freshClient (λ one. omega (arith, length-map ys clientOf, b .1 .0, b .0, h .1 (omega (arith, one, b .0)))));
-      same = set-past ys c (t .client) (λ one. omega (arith, b .1 .0, b .0, h .1 (omega (arith, one, b .0))));
-    })
+pub node-took : (ys : List NodeRecord) (l : Looked) (f : Found) → foundBegun l (length ys) f
+    → NodeFound ys l (seenIn foundSeen blankRecord f ys (placeOf (f .looked .sought .j)) (endAt (f .looked .sought .j) (f .len) - placeOf (f .looked .sought .j)))
+node-took ys l f b =
+    let j = f .looked .sought .j in
+    let out = took nodeOf failedNode foundSeen (λ x. x .node) (λ x i s. refl) blankRecord ys j (f .len) (b .1 .0) f (b .1 .1) in
+    let a = placeOf j in
+    let k = endAt j (f .len) - placeOf j in
+    record {
+      looked = stays foundSeen blankRecord (λ x. x .looked) (λ x i s. refl) f ys a k ∙ b .0;
+      len = stays foundSeen blankRecord (λ x. x .len) (λ x i s. refl) f ys a k ∙ b .1 .0;
+      node = rw (← b .0) (out .0);
+      same = rw (← b .0) (out .1);
+    }
 
 -- every record of the table is as R says, where those outside the range stay as R says too
 module _ {S : Type 0} (R : ℕ → S → S → Type 0) (d : S) (a e : ℕ) (ys zs : List S) (c : Changed R d a e ys zs)
@@ -107,7 +146,7 @@ module _ {S : Type 0} (R : ℕ → S → S → Type 0) (d : S) (a e : ℕ) (ys z
       by false u p q = let o = leb-false a i p in subst (R i (getD ys i d)) (sym (c .before i o)) (others i h (inl o) (getD ys i d))
 
 -- outside the range of record j there is no place of it
-not-at : (j n i : ℕ) → i < n → (i < placeOf j) ⊎ (endAt j n ≤ i) → isAt j i ≡ false
+not-at : (j n i : ℕ) → i < n → (i < placeOf j) ⊎ (endAt j n ≤ i) → eqb (i + 1) j ≡ false
 not-at j n i h o = ne-eqb (i + 1) j (λ e. out e (leb j n) refl o)
   where
     out : i + 1 ≡ j → (t : Bool) → leb j n ≡ t → (i < placeOf j) ⊎ (endAt j n ≤ i) → ⊥
@@ -115,201 +154,84 @@ not-at j n i h o = ne-eqb (i + 1) j (λ e. out e (leb j n) refl o)
     out e true q (inr l) = let l′ : j ≤ i = rw q at l in omega (arith, e, l′)
     out e false q (inr l) = omega (arith, e, leb-false j n q, h)
 
-pub client-left : (ys : List ClientRecord) (t : TakenClient) (zs : List ClientRecord)
-    → Changed (λ i old new. new ≡ t .client) blankClient (placeOf (t .c)) (endAt (t .c) (length ys)) ys zs → PutClient ys t zs
-client-left ys t zs c = ext-getD blankClient zs (setAt ys (t .c) (t .client)) (c .len ∙ sym (setAt-length ys (t .c) (t .client)))
-    (λ i h. let b : i < length ys = omega (arith, c .len, h) in item i b ∙ sym (set-item ys (t .c) (t .client) blankClient i b))
+-- record j is put back
+pub one-left : {S : Type 0} (d : S) (j : ℕ) (x : S) (ys zs : List S) → Changed (λ i old new. new ≡ x) d (placeOf j) (endAt j (length ys)) ys zs
+    → zs ≡ setAt ys j x
+one-left {S} d j x ys zs c = ext-getD d zs (setAt ys j x) (c .len ∙ sym (setAt-length ys j x))
+    (λ i h. let b : i < length ys = omega (arith, c .len, h) in item i b ∙ sym (set-item ys j x d i b))
   where
-    weak : Changed (λ i old new. new ≡ cond (isAt (t .c) i) (t .client) old) blankClient (placeOf (t .c)) (endAt (t .c) (length ys)) ys zs
+    weak : Changed (λ i old new. new ≡ cond (eqb (i + 1) j) x old) d (placeOf j) (endAt j (length ys)) ys zs
     weak = record { len = c .len; before = c .before; inside = λ i l h. inside i l h; after = c .after }
       where
-        inside : (i : ℕ) → placeOf (t .c) ≤ i → i < endAt (t .c) (length ys) → getD zs i blankClient ≡ cond (isAt (t .c) i) (t .client) (getD ys i blankClient)
-        inside i l h = by (leb (t .c) (length ys)) refl h
+        inside : (i : ℕ) → placeOf j ≤ i → i < endAt j (length ys) → getD zs i d ≡ cond (eqb (i + 1) j) x (getD ys i d)
+        inside i l h = by (leb j (length ys)) refl h
           where
-            by : (u : Bool) → leb (t .c) (length ys) ≡ u → i < cond u (t .c) 0 → getD zs i blankClient ≡ cond (isAt (t .c) i) (t .client) (getD ys i blankClient)
-            by true q h′ = rw (eq-eqb (i + 1) (t .c) (omega (arith, l, h′))) (c .inside i l h)
+            by : (u : Bool) → leb j (length ys) ≡ u → i < cond u j 0 → getD zs i d ≡ cond (eqb (i + 1) j) x (getD ys i d)
+            by true q h′ = rw (eq-eqb (i + 1) j (omega (arith, l, h′))) (c .inside i l h)
             by false q h′ = absurd (omega (arith, h′))
 
-    item : (i : ℕ) → i < length ys → getD zs i blankClient ≡ cond (isAt (t .c) i) (t .client) (getD ys i blankClient)
-    item = each (λ i old new. new ≡ cond (isAt (t .c) i) (t .client) old) blankClient (placeOf (t .c)) (endAt (t .c) (length ys)) ys zs weak
-        (λ i h o x. rw (not-at (t .c) (length ys) i h o) refl)
+    item : (i : ℕ) → i < length ys → getD zs i d ≡ cond (eqb (i + 1) j) x (getD ys i d)
+    item = each (λ i old new. new ≡ cond (eqb (i + 1) j) x old) d (placeOf j) (endAt j (length ys)) ys zs weak
+        (λ i h o y. rw (not-at j (length ys) i h o) refl)
 
--- ---- the table of the nodes
+-- ---- all nodes
 
--- nothing is outside a range of the whole table
-none : {n i : ℕ} → i < n → (i < 0) ⊎ (n ≤ i) → ⊥
-none h (inl l) = omega (arith, l)
-none h (inr l) = omega (arith, h, l)
+module _ (ys : List NodeRecord) (q : Sought) (l : Looked) (b : lookedBegun q (length ys) l) where
+  abbrev at : ℕ → Looked
+  at k = seenIn lookedSeen blankRecord l ys 0 k
 
-module _ (ys : List NodeRecord) (q : Sought) (f₀ : Found) (b : foundBegun q (length ys) f₀) where
-  abbrev at : ℕ → ℕ → Found
-  at a k = seenIn foundSeen blankRecord f₀ ys a k
-
-  -- what a turn does not touch
-  at-sought : (a k : ℕ) → at a k .sought ≡ q
-  at-sought a zero = b .0
-  at-sought a (suc k) = at-sought a k
-
-  at-len : (a k : ℕ) → at a k .len ≡ length ys
-  at-len a zero = b .1 .0
-  at-len a (suc k) = at-len a k
-
-  -- the node is there after its turn, and the one that the loop began with before
-  abbrev NodeAt : ℕ → Type 0
-  NodeAt k = (1 ≤ q .j → q .j ≤ k → at 0 k .node ≡ getD ys (q .j - 1) blankRecord) × ((1 ≤ q .j → k < q .j) → at 0 k .node ≡ f₀ .node)
-
-  at-node : (k : ℕ) → NodeAt k
-  at-node zero = (λ one few. absurd (omega (arith, one, few)), λ _. refl)
-  at-node (suc k) = by (at-node k) (eqb (0 + k + 1) (q .j)) refl
-    where
-      turn : (t : Bool) → eqb (0 + k + 1) (q .j) ≡ t → at 0 (suc k) .node ≡ cond t (getD ys (0 + k) blankRecord) (at 0 k .node)
-      turn t e = rw (at-sought 0 k, e) refl
-
-      by : NodeAt k → (t : Bool) → eqb (0 + k + 1) (q .j) ≡ t → NodeAt (suc k)
-      by before true e = let here : 0 + k ≡ q .j - 1 = omega (arith, eqb-true (0 + k + 1) (q .j) e) in
-          (λ one few. turn true e ∙ ap (λ i. getD ys i blankRecord) here, λ past. absurd (omega (arith, eqb-true (0 + k + 1) (q .j) e, past (omega (arith, eqb-true (0 + k + 1) (q .j) e)))))
-      by before false e = let other : 0 + k + 1 ≡ q .j → ⊥ = eqb-false (0 + k + 1) (q .j) e in
-          (λ one few. turn false e ∙ before .0 one (omega (arith, few, other)), λ past. turn false e ∙ before .1 (λ one. omega (arith, past one)))
+  at-sought : (k : ℕ) → at k .sought ≡ q
+  at-sought k = stays lookedSeen blankRecord (λ x. x .sought) (λ x i s. refl) l ys 0 k ∙ b .0
 
   -- what is seen of the first k nodes
-  at-seen : q .all ≡ true → (k : ℕ) → k ≤ length ys → at 0 k .seen ≡ seenOf (q .z) (q .c) (take k (nodesIn ys))
-  at-seen all zero h = b .1 .1 .0 ∙ seen-none (q .z) (q .c)
-  at-seen all (suc k) h =
+  at-seen : (k : ℕ) → k ≤ length ys → at k .seen ≡ seenOf (q .z) (q .c) (take k (nodesIn ys))
+  at-seen zero h = b .1 .1 ∙ seen-none (q .z) (q .c)
+  at-seen (suc k) h =
       let inside : k < length (nodesIn ys) = omega (arith, h, length-map ys nodeOf) in
       rw (
-        at-sought 0 k,
-        all,
-        at-seen all k (omega (arith, h)),
+        at-sought k,
+        at-seen k (omega (arith, h)),
         zero-add k,
         take-suc (nodesIn ys) k (nodeOf blankRecord) inside,
         List·getD-map nodeOf ys k blankRecord,
       ) (seen-last (q .z) (q .c) (take k (nodesIn ys)) (nodeOf (getD ys k blankRecord)))
 
--- all nodes were looked at, or one
-pub node-took : (ys : List NodeRecord) (q : Sought) (f : Found) → foundBegun q (length ys) f
-    → NodeFound ys q (seenIn foundSeen blankRecord f ys (firstSought (f .sought)) (endSought (f .sought) (f .len) - firstSought (f .sought)))
-node-took ys q f b =
-    subst (λ (s : Sought). NodeFound ys q (at ys q f b (firstSought s) (endSought s (f .len) - firstSought s))) (sym (b .0))
-    (subst (λ (n : ℕ). NodeFound ys q (at ys q f b (firstSought q) (endSought q n - firstSought q))) (sym (b .1 .0)) (by (q .all) refl))
+pub looked-took : (ys : List NodeRecord) (q : Sought) (l : Looked) → lookedBegun q (length ys) l
+    → NodesSeen ys q (seenIn lookedSeen blankRecord l ys 0 (endLooked l - 0))
+looked-took ys q l b = record { sought = at-sought ys q l b (endLooked l - 0); sees = λ all n. sees all n (endLooked l - 0) (ends all) }
   where
-    -- the record that the node's turn leaves
-    found : (g : Found) → (1 ≤ q .j) × (q .j ≤ length ys) → g .node ≡ getD ys (q .j - 1) blankRecord
-        → (nodeOf (g .node) ≡ nodeAt (nodesIn ys) (q .j)) × (setAt ys (q .j) (g .node) ≡ ys)
-    found g h e = (ap nodeOf e ∙ element-in nodeOf ys (q .j) blankRecord failedNode (h .0) (h .1), ap (setAt ys (q .j)) e ∙ set-in ys (q .j) blankRecord (h .0))
+    ends : q .all ≡ true → endLooked l - 0 ≡ length ys
+    ends all = rw (b .0, all, b .1 .0) (omega arith)
 
-    missed : (g : Found) → (1 ≤ q .j → length ys < q .j) → g .node ≡ f .node
-        → (nodeOf (g .node) ≡ nodeAt (nodesIn ys) (q .j)) × (setAt ys (q .j) (g .node) ≡ ys)
-    missed g h e = (
-      ap nodeOf e ∙ b .1 .1 .1 ∙ sym (element-past (nodesIn ys) (q .j) failedNode (λ one. omega (arith, length-map ys nodeOf, h one))),
-      set-past ys (q .j) (g .node) h,
-    )
+    whole : take (length ys) (nodesIn ys) ≡ nodesIn ys
+    whole = ap (λ n. take n (nodesIn ys)) (sym (length-map ys nodeOf)) ∙ take-length (nodesIn ys)
 
-    made : (a k : ℕ) → (nodeOf (at ys q f b a k .node) ≡ nodeAt (nodesIn ys) (q .j)) × (setAt ys (q .j) (at ys q f b a k .node) ≡ ys)
-        → (q .all ≡ true → length ys ≡ q .z .n → Sees (q .z) (q .c) (nodesIn ys) (at ys q f b a k .seen)) → NodeFound ys q (at ys q f b a k)
-    made a k h s = record { sought = at-sought ys q f b a k; len = at-len ys q f b a k; node = h .0; same = h .1; sees = s }
+    sees : q .all ≡ true → length ys ≡ q .z .n → (k : ℕ) → k ≡ length ys → Sees (q .z) (q .c) (nodesIn ys) (at ys q l b k .seen)
+    sees all n k e = sees-all (q .z) (q .c) (nodesIn ys) (length-map ys nodeOf ∙ n)
+        (at-seen ys q l b k (omega (arith, e)) ∙ ap (λ i. seenOf (q .z) (q .c) (take i (nodesIn ys))) e ∙ ap (seenOf (q .z) (q .c)) whole)
 
-    one : q .all ≡ false → ((endAt (q .j) (length ys) - placeOf (q .j) ≡ 1) × ((1 ≤ q .j) × (q .j ≤ length ys)))
-        ⊎ ((endAt (q .j) (length ys) - placeOf (q .j) ≡ 0) × (1 ≤ q .j → length ys < q .j))
-        → NodeFound ys q (at ys q f b (placeOf (q .j)) (endAt (q .j) (length ys) - placeOf (q .j)))
-    one e (inl h) = let here : placeOf (q .j) + 0 + 1 ≡ q .j = omega (arith, h .1 .0) in
-        rw (h .0) (made (placeOf (q .j)) 1 (found (at ys q f b (placeOf (q .j)) 1) (h .1) (rw (b .0, eq-eqb (placeOf (q .j) + 0 + 1) (q .j) here, add-zero (placeOf (q .j))) refl))
-        (λ all. false-true (sym e ∙ all)))
-    one e (inr h) = rw (h .0) (made (placeOf (q .j)) 0 (missed (at ys q f b (placeOf (q .j)) 0) (h .1) refl) (λ all. false-true (sym e ∙ all)))
-
-    many : q .all ≡ true → NodeFound ys q (at ys q f b 0 (length ys))
-    many all = made 0 (length ys) (by (leb (q .j) (length ys)) refl) (λ _. sees)
-      where
-        by : (t : Bool) → leb (q .j) (length ys) ≡ t
-            → (nodeOf (at ys q f b 0 (length ys) .node) ≡ nodeAt (nodesIn ys) (q .j)) × (setAt ys (q .j) (at ys q f b 0 (length ys) .node) ≡ ys)
-        by true h = some (leb 1 (q .j)) refl
-          where
-            some : (u : Bool) → leb 1 (q .j) ≡ u
-                → (nodeOf (at ys q f b 0 (length ys) .node) ≡ nodeAt (nodesIn ys) (q .j)) × (setAt ys (q .j) (at ys q f b 0 (length ys) .node) ≡ ys)
-            some true g = let few = leb-true (q .j) (length ys) h in let one = leb-true 1 (q .j) g in
-                found (at ys q f b 0 (length ys)) (one, few) (at-node ys q f b (length ys) .0 one few)
-            some false g = let none : 1 ≤ q .j → length ys < q .j = λ one. absurd (omega (arith, one, leb-false 1 (q .j) g)) in
-                missed (at ys q f b 0 (length ys)) none (at-node ys q f b (length ys) .1 none)
-        by false h = let past : 1 ≤ q .j → length ys < q .j = λ _. leb-false (q .j) (length ys) h in
-            missed (at ys q f b 0 (length ys)) past (at-node ys q f b (length ys) .1 past)
-
-        whole : take (length ys) (nodesIn ys) ≡ nodesIn ys
-        whole = ap (λ n. take n (nodesIn ys)) (sym (length-map ys nodeOf)) ∙ take-length (nodesIn ys)
-
-        sees : length ys ≡ q .z .n → Sees (q .z) (q .c) (nodesIn ys) (at ys q f b 0 (length ys) .seen)
-        sees e = sees-all (q .z) (q .c) (nodesIn ys) (length-map ys nodeOf ∙ e)
-            (at-seen ys q f b all (length ys) (omega arith) ∙ ap (seenOf (q .z) (q .c)) whole)
-
-    by : (t : Bool) → q .all ≡ t
-        → NodeFound ys q (at ys q f b (cond t 0 (placeOf (q .j))) (cond t (length ys) (endAt (q .j) (length ys)) - cond t 0 (placeOf (q .j))))
-    by true e = let n : length ys - 0 ≡ length ys = omega arith in rw n (many e)
-    by false e = one e (turns (q .j) (length ys))
-
-pub node-left : (ys : List NodeRecord) (b : Back) (zs : List NodeRecord)
-    → Changed (PutsNode b) blankRecord (firstBack b) (endBack b (length ys)) ys zs → PutBack ys b zs
-node-left ys b zs c = record {
+pub others-left : (ys : List NodeRecord) (o : Others) (zs : List NodeRecord)
+    → Changed (λ i old new. nodeOf new ≡ changedAt (o .change) i (nodeOf old)) blankRecord (firstOf (o .change) (o .len)) (endOf (o .change) (length ys)) ys zs
+    → PutOthers ys o zs
+others-left ys o zs c = record {
   nodes-are = λ e.
-      applied-is ch put (nodesIn zs) (length-map zs nodeOf ∙ c .len ∙ sym put-length)
-      (λ p h f g. let inside : p < length ys = omega (arith, put-length, h) in
-      seen zs p (omega (arith, c .len, inside)) ∙ item p inside .touched (touched e p (rw (← put-length) f) (rw (← put-length) g))
-      ∙ ap (changedAt ch p) (sym (put-at p inside)))
-      (λ p h o. let inside : p < length ys = omega (arith, put-length, h) in
-      seen zs p (omega (arith, c .len, inside)) ∙ ap nodeOf (item p inside .kept (kept e p (rw (← put-length) o))) ∙ sym (put-at p inside));
-  same = λ e.
-      ext-getD blankRecord zs (setAt ys (b .j) (b .node)) (c .len ∙ sym (setAt-length ys (b .j) (b .node)))
-      (λ i h. let inside : i < length ys = omega (arith, c .len, h) in
-      item i inside .kept (rw e (and-false (leb 0 i) i)) ∙ sym (set-item ys (b .j) (b .node) blankRecord i inside));
+      applied-is (o .change) (nodesIn ys) (nodesIn zs) (length-map zs nodeOf ∙ c .len ∙ sym (length-map ys nodeOf))
+      (λ p h f g. let inside : p < length ys = omega (arith, length-map ys nodeOf, h) in
+      let begun : firstOf (o .change) (o .len) ≤ p = rw (e, ← length-map ys nodeOf) f in
+      let more : p < endOf (o .change) (length ys) = rw (← length-map ys nodeOf) g in
+      seen zs p (omega (arith, c .len, inside)) ∙ c .inside p begun more ∙ ap (changedAt (o .change) p) (sym (seen ys p inside)))
+      (λ p h out. let inside : p < length ys = omega (arith, length-map ys nodeOf, h) in
+      seen zs p (omega (arith, c .len, inside)) ∙ ap nodeOf (stay e p out (decLt p (firstOf (o .change) (o .len)))) ∙ sym (seen ys p inside));
+  same = λ e. ext-getD blankRecord zs ys (c .len) (λ i h. c .after i (rw e (omega arith)));
 }
   where
-    ch : Change
-    ch = b .change
-
-    put : List Node
-    put = setAt (nodesIn ys) (b .j) (nodeOf (b .node))
-
-    put-length : length put ≡ length ys
-    put-length = setAt-length (nodesIn ys) (b .j) (nodeOf (b .node)) ∙ length-map ys nodeOf
-
-    and-false : (t : Bool) (i : ℕ) → (t && ltb i 0) ≡ false
-    and-false t i = by t (ltb i 0) (le-ltb i 0 (omega arith))
-      where
-        by : (t u : Bool) → u ≡ false → (t && u) ≡ false
-        by true u e = e
-        by false u e = refl
-
-    -- the range of the change, by the length of the table
-    touched : b .len ≡ length ys → (p : ℕ) → firstOf ch (length ys) ≤ p → p < endOf ch (length ys) → touches b p ≡ true
-    touched e p f g = rw (e, le-leb (firstOf ch (length ys)) p f, lt-ltb p (endOf ch (length ys)) g) refl
-
-    kept : b .len ≡ length ys → (p : ℕ) → (firstOf ch (length ys) ≤ p → endOf ch (length ys) ≤ p) → touches b p ≡ false
-    kept e p o = rw e (by (leb (firstOf ch (length ys)) p) refl)
-      where
-        by : (t : Bool) → leb (firstOf ch (length ys)) p ≡ t → (t && ltb p (endOf ch (length ys))) ≡ false
-        by true h = le-ltb p (endOf ch (length ys)) (o (leb-true (firstOf ch (length ys)) p h))
-        by false h = refl
-
-    outside : (i : ℕ) → i < length ys → (i < firstBack b) ⊎ (endBack b (length ys) ≤ i) → (x : NodeRecord) → PutsNode b i x x
-    outside i h o x = by (keepsOthers b) refl o
-      where
-        empty : keepsOthers b ≡ true → touches b i ≡ false
-        empty k = rest (leb (firstOf ch (b .len)) i) refl
-          where
-            rest : (t : Bool) → leb (firstOf ch (b .len)) i ≡ t → (t && ltb i (endOf ch (b .len))) ≡ false
-            rest true l = le-ltb i (endOf ch (b .len)) (omega (arith, leb-true (firstOf ch (b .len)) i l, leb-true (endOf ch (b .len)) (firstOf ch (b .len)) k))
-            rest false l = refl
-
-        by : (t : Bool) → keepsOthers b ≡ t → (i < cond t (placeOf (b .j)) 0) ⊎ (cond t (endAt (b .j) (length ys)) (length ys) ≤ i) → PutsNode b i x x
-        by true k o = record { touched = λ t. false-true (sym (empty k) ∙ t); kept = λ _. rw (not-at (b .j) (length ys) i h o) refl }
-        by false k o = absurd (none h o)
-
-    item : (i : ℕ) → i < length ys → PutsNode b i (getD ys i blankRecord) (getD zs i blankRecord)
-    item = each (PutsNode b) blankRecord (firstBack b) (endBack b (length ys)) ys zs c outside
-
     seen : (l : List NodeRecord) (p : ℕ) → p < length l → getD (nodesIn l) p failedNode ≡ nodeOf (getD l p blankRecord)
     seen l p h = getD-any (nodesIn l) p failedNode (nodeOf blankRecord) (omega (arith, length-map l nodeOf, h)) ∙ List·getD-map nodeOf l p blankRecord
 
-    put-at : (p : ℕ) → p < length ys → getD put p failedNode ≡ nodeOf (chosen b p (getD ys p blankRecord))
-    put-at p h = set-item (nodesIn ys) (b .j) (nodeOf (b .node)) failedNode p (omega (arith, length-map ys nodeOf, h)) ∙ by (isAt (b .j) p)
-      where
-        by : (t : Bool) → cond t (nodeOf (b .node)) (getD (nodesIn ys) p failedNode) ≡ nodeOf (cond t (b .node) (getD ys p blankRecord))
-        by true = refl
-        by false = seen ys p h
+    stay : o .len ≡ length ys → (p : ℕ) → (firstOf (o .change) (length (nodesIn ys)) ≤ p → endOf (o .change) (length (nodesIn ys)) ≤ p)
+        → Dec (p < firstOf (o .change) (o .len)) → getD zs p blankRecord ≡ getD ys p blankRecord
+    stay e p out (yes h) = c .before p h
+    stay e p out (no h) =
+        let begun : firstOf (o .change) (length (nodesIn ys)) ≤ p = rw (length-map ys nodeOf, ← e) (omega (arith, h)) in
+        let past : endOf (o .change) (length ys) ≤ p = rw (← length-map ys nodeOf) (out begun) in
+        c .after p past

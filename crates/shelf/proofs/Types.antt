@@ -1,26 +1,30 @@
 -- The records and the tables of this crate, as the laws of `lent` take them. Assumes nothing.
 use mathlib.Core.List.{[], _∷_}
 use mathlib.Core.Path.{refl, ap}
-use mir.Syntax.{w8, w64}
-use denote.Builtin.{u8, usize}
+use mir.Syntax.{w8}
+use denote.Builtin.{u8}
 use denote.Steps.{only}
 use denote.Struct.Laws as struct
 use Rattle.calls.proofs.Answer as answer
 use Rattle.calls.proofs.Answer.Laws as answer-laws
 use Rattle.lent.proofs.Elem.{Rec, rec-struct, rec-enum, rec-uint}
-use Rattle.lent.proofs.Side.{Side, Back, Both}
+use Rattle.lent.proofs.Side.{Side, Back, Parts}
 use Rattle.records.proofs.ClientRecord as client
 use Rattle.records.proofs.ClientRecord.Laws as client-laws
 use Rattle.records.proofs.NodeRecord as node
 use Rattle.records.proofs.NodeRecord.Laws as node-laws
 use Rattle.shelf.specs.Picks.{AllTook}
-use Rattle.shelf.specs.Table.{ClientTaken, NodeFound, PutBack, PutClient}
+use Rattle.shelf.specs.Table.{ClientTaken, NodeFound, NodesSeen, PutBack, PutClient, PutOthers}
 use Rattle.shelf.proofs.AllTaken as all
 use Rattle.shelf.proofs.AllTaken.Laws as all-laws
 use Rattle.shelf.proofs.Back as back
 use Rattle.shelf.proofs.Back.Laws as back-laws
 use Rattle.shelf.proofs.Found as found
 use Rattle.shelf.proofs.Found.Laws as found-laws
+use Rattle.shelf.proofs.Looked as looked
+use Rattle.shelf.proofs.Looked.Laws as looked-laws
+use Rattle.shelf.proofs.Others as others
+use Rattle.shelf.proofs.Others.Laws as others-laws
 use Rattle.shelf.proofs.PickRequest as pick-request
 use Rattle.shelf.proofs.PickRequest.Laws as pick-request-laws
 use Rattle.shelf.proofs.ReadRequest as read-request
@@ -55,6 +59,9 @@ all-rec = rec-struct all.the-type all-laws.the-laws all-laws.the-copy all-laws.t
 abbrev pub sought-rec : Rec sought.the-row
 sought-rec = rec-struct sought.the-type sought-laws.the-laws sought-laws.the-copy sought-laws.the-plain (λ _. tt) (λ _ _. refl)
 
+abbrev pub looked-rec : Rec looked.the-row
+looked-rec = rec-struct looked.the-type looked-laws.the-laws looked-laws.the-copy looked-laws.the-plain (λ _. tt) (λ _ _. refl)
+
 abbrev pub found-rec : Rec found.the-row
 found-rec = rec-struct found.the-type found-laws.the-laws found-laws.the-copy found-laws.the-plain (λ _. tt) (λ _ _. refl)
 
@@ -64,37 +71,43 @@ taken-rec = rec-struct taken.the-type taken-laws.the-laws taken-laws.the-copy ta
 abbrev pub back-rec : Rec back.the-row
 back-rec = rec-struct back.the-type back-laws.the-laws back-laws.the-copy back-laws.the-plain (λ _. tt) (λ _ _. refl)
 
+abbrev pub others-rec : Rec others.the-row
+others-rec = rec-struct others.the-type others-laws.the-laws others-laws.the-copy others-laws.the-plain (λ _. tt) (λ _ _. refl)
+
 abbrev returned-rec : Rec returned.the-row
 returned-rec = rec-struct returned.the-type returned-laws.the-laws returned-laws.the-copy returned-laws.the-plain (λ _. tt) (λ _ _. refl)
 
 abbrev pub answer-rec : Rec answer.the-row
 answer-rec = rec-enum answer.the-type answer-laws.the-laws answer-laws.the-copy answer-laws.the-plain tt (λ _. tt) (λ _ _. refl)
 
-abbrev pub returned-both : Both back.the-row taken.the-row answer.the-row returned.the-row back-rec taken-rec answer-rec
-returned-both = record {
+abbrev pub returned-parts : Parts back.the-row others.the-row taken.the-row answer.the-row returned.the-row back-rec others-rec taken-rec answer-rec
+returned-parts = record {
   name = returned.struct .name;
   first = λ r. r .back;
+  then = λ r. r .others;
   second = λ r. r .client;
   answer = λ r. r .answer;
   apart = λ r w is.
       let fields = struct.owed returned.the-type returned-laws.the-laws r _ is in
-      (ap only (returned-rec .tells r (w ∷ []) is), (fields .0, (fields .1 .0, fields .1 .1 .0)));
+      (ap only (returned-rec .tells r (w ∷ []) is), (fields .0, (fields .1 .0, (fields .1 .1 .0, fields .1 .1 .1 .0))));
   typed = λ 𝓤 H A W r w is. returned-rec .typed 𝓤 H A W r w is;
 }
 
--- the table of the nodes: what is looked for, what is found, and what is put back
+-- the table of the nodes: it is looked at, and then the node is taken out, or all
+abbrev pub seen-nodes : Side
+seen-nodes = record { S = node.the-row; P = sought.the-row; X = looked.the-row; s = node-rec; p = sought-rec; x = looked-rec; Took = NodesSeen }
+
 abbrev pub nodes : Side
-nodes = record { S = node.the-row; P = sought.the-row; X = found.the-row; s = node-rec; p = sought-rec; x = found-rec; Took = NodeFound }
+nodes = record { S = node.the-row; P = looked.the-row; X = found.the-row; s = node-rec; p = looked-rec; x = found-rec; Took = NodeFound }
 
-abbrev pub nodes-back : Back nodes
-nodes-back = record { Y = back.the-row; y = back-rec; Puts = PutBack }
-
--- the same for a pick, which takes all records out
 abbrev pub all-nodes : Side
-all-nodes = record { S = node.the-row; P = usize; X = all.the-row; s = node-rec; p = rec-uint w64; x = all-rec; Took = AllTook }
+all-nodes = record { S = node.the-row; P = looked.the-row; X = all.the-row; s = node-rec; p = looked-rec; x = all-rec; Took = AllTook }
 
-abbrev pub all-nodes-back : Back all-nodes
-all-nodes-back = record { Y = back.the-row; y = back-rec; Puts = PutBack }
+abbrev pub node-back : Back seen-nodes
+node-back = record { Y = back.the-row; y = back-rec; Puts = PutBack }
+
+abbrev pub others-back : Back seen-nodes
+others-back = record { Y = others.the-row; y = others-rec; Puts = PutOthers }
 
 -- the table of the clients
 abbrev pub clients : Side

@@ -17,14 +17,15 @@ use Rattle.step.specs.Steps.{stripeWith}
 use Rattle.stripe.specs.Seen.{applied, keep}
 use Rattle.stripe.specs.View.{nodesOf}
 use Rattle.shelf.specs.declared.AllTaken.{AllTaken}
+use Rattle.shelf.specs.declared.Looked.{Looked}
 use Rattle.shelf.specs.declared.PickRequest.{PickRequest}
 use Rattle.shelf.specs.declared.Returned.{Returned}
 use Rattle.shelf.specs.declared.TakenClient.{TakenClient}
 use Rattle.shelf.specs.Shelf.{entered, stripeIn}
 use Rattle.shelf.specs.Table.{ClientTaken, clientsIn, nodesIn}
 
-abbrev pub allBegun : ℕ → ℕ → AllTaken → Type 0
-allBegun n len t = (t .len ≡ len) × (length (t .nodes .items) ≡ 18)
+abbrev pub allBegun : Looked → ℕ → AllTaken → Type 0
+allBegun l len t = (t .len ≡ len) × (length (t .nodes .items) ≡ 18)
 
 abbrev pub allEnd : AllTaken → ℕ
 allEnd t = cond (leb (t .len) 18) (t .len) 0
@@ -32,23 +33,28 @@ allEnd t = cond (leb (t .len) 18) (t .len) 0
 abbrev pub allSeen : AllTaken → ℕ → NodeRecord → AllTaken
 allSeen t i node = record { len = t .len; nodes = record { items = set (t .nodes .items) i node } }
 
-pub record AllTook (nodes : List NodeRecord) (n : ℕ) (t : AllTaken) : Type 0 where
+pub record AllTook (nodes : List NodeRecord) (l : Looked) (t : AllTaken) : Type 0 where
   pub len : t .len ≡ length nodes
   pub items : length nodes ≤ nodeLimit → nodesOf (length nodes) (t .nodes) ≡ nodesIn nodes
 
 pub record AfterPick (s : Returned) (t : AllTaken) (y : TakenClient) (r : Picked) : Type 0 where
   pub answer-is : s .answer ≡ r .answer
   pub client-is : s .client ≡ record { c = y .c; len = y .len; client = r .client }
-  pub change-is : s .back .change ≡ r .change
+  pub change-is : s .others .change ≡ r .change
   pub j-is : s .back .j ≡ 0
-  pub len : s .back .len ≡ t .len
+  pub len : s .others .len ≡ t .len
 
 pub record PicksAll (t : AllTaken) (y : TakenClient) (spare blocks : List ℕ) (q : PickRequest) (r : Returned) (spare′ : List ℕ) : Type 0 where
   pub j-is : r .back .j ≡ 0
-  pub len : r .back .len ≡ t .len
-  pub meets : (nodes : List NodeRecord) (clients : List ClientRecord) (differences : List ℕ)
-      → AllTook nodes (q .z .n) t → ClientTaken clients (q .c) y
+  pub len : r .others .len ≡ t .len
+  pub meets : (nodes : List NodeRecord) (clients : List ClientRecord) (differences : List ℕ) (l : Looked)
+      → AllTook nodes l t → ClientTaken clients (q .c) y
       → Meets (entered (q .z) (Pick (q .c)) (stripeIn nodes clients blocks spare differences)) (r .answer) []
-      (stripeWith (applied (r .back .change) (nodesIn nodes)) (setAt (clientsIn clients) (r .client .c) (clientOf (r .client .client)))
+      (stripeWith (applied (r .others .change) (nodesIn nodes)) (setAt (clientsIn clients) (r .client .c) (clientOf (r .client .client)))
       blocks spare′ differences)
-      ((r .back .change ≡ keep) × (setAt clients (r .client .c) (r .client .client) ≡ clients))
+      ((r .others .change ≡ keep) × (setAt clients (r .client .c) (r .client .client) ≡ clients))
+
+-- a pick writes the spare alone
+abbrev pub PickedAll : AllTaken → TakenClient → List ℕ → List ℕ → List ℕ → List ℕ → PickRequest → Returned → List ℕ → List ℕ → List ℕ → Type 0
+PickedAll t y blocks spare differences value q r blocks′ spare′ differences′ =
+    (blocks′ ≡ blocks) × ((differences′ ≡ differences) × PicksAll t y spare blocks q r spare′)

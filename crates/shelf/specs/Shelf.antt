@@ -48,10 +48,16 @@ Reads nodes out blocks q answer out′ =
     → Meets (reading (q .z) (q .i) out (stripeWith (nodesIn nodes) clients blocks spare differences))
     answer out′ (stripeWith (nodesIn nodes) clients blocks spare differences) (out′ ≡ out)
 
--- a pick is not lent the differences
+-- whatever the differences are
 abbrev pub Picks : List NodeRecord → List ClientRecord → List ℕ → List ℕ → PickRequest → Answer
     → List NodeRecord → List ClientRecord → List ℕ → Type 0
 Picks nodes clients spare blocks q answer nodes′ clients′ spare′ =
     (differences : List ℕ)
     → Meets (entered (q .z) (Pick (q .c)) (stripeIn nodes clients blocks spare differences))
     answer [] (stripeIn nodes′ clients′ blocks spare′ differences) ((nodes′ ≡ nodes) × (clients′ ≡ clients))
+
+-- by the parameter list of a step: a pick writes the spare alone
+abbrev pub PicksOnly : List NodeRecord → List ClientRecord → List ℕ → List ℕ → List ℕ → List ℕ → PickRequest → Answer
+    → List NodeRecord → List ClientRecord → List ℕ → List ℕ → List ℕ → Type 0
+PicksOnly nodes clients blocks spare differences value q answer nodes′ clients′ blocks′ spare′ differences′ =
+    (blocks′ ≡ blocks) × ((differences′ ≡ differences) × Picks nodes clients spare blocks q answer nodes′ clients′ spare′)

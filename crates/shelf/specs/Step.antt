@@ -1,5 +1,4 @@
 -- What the step on what was taken out of the tables says: the machine's call on all tables that it was taken out of. Assumes nothing.
-use mathlib.Core.Bool.{false}
 use mathlib.Core.List.{List, []}
 use mathlib.Core.Path.{_≡_}
 use Prim.Native.Nat.{ℕ}
@@ -16,13 +15,14 @@ use Rattle.records.specs.View.{clientOf, nodeOf}
 use Rattle.step.specs.Steps.{stripeWith}
 use Rattle.stripe.specs.Seen.{applied, keep}
 use Rattle.shelf.specs.declared.Found.{Found}
+use Rattle.shelf.specs.declared.Looked.{Looked}
 use Rattle.shelf.specs.declared.ReadRequest.{ReadRequest}
 use Rattle.shelf.specs.declared.Request.{Request}
 use Rattle.shelf.specs.declared.Returned.{Returned}
 use Rattle.shelf.specs.declared.Sought.{Sought}
 use Rattle.shelf.specs.declared.TakenClient.{TakenClient}
 use Rattle.shelf.specs.Shelf.{Reads, entered, stripeIn}
-use Rattle.shelf.specs.Table.{ClientTaken, NodeFound, clientsIn, nodesIn}
+use Rattle.shelf.specs.Table.{ClientTaken, NodeFound, NodesSeen, clientsIn, nodesIn}
 
 -- what a call looks for, by the record of its client
 abbrev pub soughtFor : ClientRecord → Request → Sought
@@ -31,30 +31,34 @@ soughtFor client q = record { z = q .z; c = caller (q .call); j = target (q .z) 
 -- "1: .. buffer length outside the limits": all is put back as it was
 abbrev pub refusedOf : Found → TakenClient → Returned
 refusedOf f t =
-    record { back = record { j = f .sought .j; len = f .len; node = f .node; change = keep }; client = t; answer = Refused OutOfLimits }
+    record {
+      back = record { j = f .looked .sought .j; node = f .node };
+      others = record { len = f .len; change = keep };
+      client = t;
+      answer = Refused OutOfLimits;
+    }
 
 -- the step's records are put back
 pub record After (s : Returned) (f : Found) (t : TakenClient) (r : Stepped) : Type 0 where
   pub is : s ≡ record {
-    back = record { j = f .sought .j; len = f .len; node = r .node; change = r .change };
+    back = record { j = f .looked .sought .j; node = r .node };
+    others = record { len = f .len; change = r .change };
     client = record { c = t .c; len = t .len; client = r .client };
     answer = r .answer;
   }
 
 pub record StepsFound (f : Found) (t : TakenClient) (blocks spare differences value : List ℕ) (q : Request) (r : Returned)
     (blocks′ spare′ differences′ : List ℕ) : Type 0 where
-  pub len : r .back .len ≡ f .len
-  pub meets : (nodes : List NodeRecord) (clients : List ClientRecord)
-      → NodeFound nodes (soughtFor (t .client) q) f → ClientTaken clients (caller (q .call)) t
+  pub len : r .others .len ≡ f .len
+  pub meets : (nodes : List NodeRecord) (clients : List ClientRecord) (l : Looked)
+      → NodesSeen nodes (soughtFor (t .client) q) l → NodeFound nodes l f → ClientTaken clients (caller (q .call)) t
       → Meets (entered (q .z) (stepOf (q .call) value) (stripeIn nodes clients blocks spare differences)) (r .answer) []
-      (stripeWith (applied (r .back .change) (setAt (nodesIn nodes) (r .back .j) (nodeOf (r .back .node))))
+      (stripeWith (applied (r .others .change) (setAt (nodesIn nodes) (r .back .j) (nodeOf (r .back .node))))
       (setAt (clientsIn clients) (r .client .c) (clientOf (r .client .client))) blocks′ spare′ differences′)
-      ((r .back .change ≡ keep) × ((setAt nodes (r .back .j) (r .back .node) ≡ nodes) × ((setAt clients (r .client .c) (r .client .client) ≡ clients)
+      ((r .others .change ≡ keep) × ((setAt nodes (r .back .j) (r .back .node) ≡ nodes) × ((setAt clients (r .client .c) (r .client .client) ≡ clients)
       × ((blocks′ ≡ blocks) × ((spare′ ≡ spare) × (differences′ ≡ differences))))))
 
--- a read looks at one node
-abbrev pub readSought : ReadRequest → Sought
-readSought q = record { z = q .z; c = 0; j = q .i; all = false }
-
+-- a read is at the node of its position
 abbrev pub ReadsFound : Found → List ℕ → List ℕ → ReadRequest → Answer → List ℕ → Type 0
-ReadsFound f out blocks q answer out′ = (nodes : List NodeRecord) → NodeFound nodes (readSought q) f → Reads nodes out blocks q answer out′
+ReadsFound f out blocks q answer out′ =
+    (nodes : List NodeRecord) (l : Looked) → l .sought .j ≡ q .i → NodeFound nodes l f → Reads nodes out blocks q answer out′

@@ -14,6 +14,8 @@ use Rattle.records.specs.View.{clientOf, nodeOf}
 use Rattle.stripe.specs.Seen.{Sees, applied, keep}
 use Rattle.shelf.specs.declared.Back.{Back}
 use Rattle.shelf.specs.declared.Found.{Found}
+use Rattle.shelf.specs.declared.Looked.{Looked}
+use Rattle.shelf.specs.declared.Others.{Others}
 use Rattle.shelf.specs.declared.Sought.{Sought}
 use Rattle.shelf.specs.declared.TakenClient.{TakenClient}
 
@@ -34,14 +36,20 @@ pub record ClientTaken (clients : List ClientRecord) (c : ℕ) (t : TakenClient)
 abbrev pub PutClient : List ClientRecord → TakenClient → List ClientRecord → Type 0
 PutClient clients t clients′ = clients′ ≡ setAt clients (t .c) (t .client)
 
-pub record NodeFound (nodes : List NodeRecord) (q : Sought) (f : Found) : Type 0 where
-  pub sought : f .sought ≡ q
-  pub len : f .len ≡ length nodes
-  pub node : nodeOf (f .node) ≡ nodeAt (nodesIn nodes) (q .j)
-  pub same : setAt nodes (q .j) (f .node) ≡ nodes
-  pub sees : q .all ≡ true → length nodes ≡ q .z .n → Sees (q .z) (q .c) (nodesIn nodes) (f .seen)
+-- what is seen of all nodes, if they are looked at
+pub record NodesSeen (nodes : List NodeRecord) (q : Sought) (l : Looked) : Type 0 where
+  pub sought : l .sought ≡ q
+  pub sees : q .all ≡ true → length nodes ≡ q .z .n → Sees (q .z) (q .c) (nodesIn nodes) (l .seen)
 
--- node j's record, and then the others
-pub record PutBack (nodes : List NodeRecord) (b : Back) (nodes′ : List NodeRecord) : Type 0 where
-  pub nodes-are : b .len ≡ length nodes → nodesIn nodes′ ≡ applied (b .change) (setAt (nodesIn nodes) (b .j) (nodeOf (b .node)))
-  pub same : b .change ≡ keep → nodes′ ≡ setAt nodes (b .j) (b .node)
+pub record NodeFound (nodes : List NodeRecord) (l : Looked) (f : Found) : Type 0 where
+  pub looked : f .looked ≡ l
+  pub len : f .len ≡ length nodes
+  pub node : nodeOf (f .node) ≡ nodeAt (nodesIn nodes) (l .sought .j)
+  pub same : setAt nodes (l .sought .j) (f .node) ≡ nodes
+
+abbrev pub PutBack : List NodeRecord → Back → List NodeRecord → Type 0
+PutBack nodes b nodes′ = nodes′ ≡ setAt nodes (b .j) (b .node)
+
+pub record PutOthers (nodes : List NodeRecord) (o : Others) (nodes′ : List NodeRecord) : Type 0 where
+  pub nodes-are : o .len ≡ length nodes → nodesIn nodes′ ≡ applied (o .change) (nodesIn nodes)
+  pub same : o .change ≡ keep → nodes′ ≡ nodes

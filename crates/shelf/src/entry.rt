@@ -1,13 +1,15 @@
 // The entry points. Each is walked by a law.
-ghost use Rattle.shelf.specs.Shelf.{Picks, Steps, Reads};
+ghost use Rattle.shelf.specs.Shelf.{PicksOnly, Steps, Reads};
 use crate::PickRequest;
 use crate::ReadRequest;
 use crate::Request;
 use crate::table::look;
 use crate::table::put_back;
 use crate::table::put_client;
+use crate::table::put_others;
 use crate::table::take_all;
 use crate::table::take_client;
+use crate::table::take_node;
 use calls::Answer;
 use records::ClientRecord;
 use records::NodeRecord;
@@ -28,9 +30,11 @@ pub fn step(
     let c = request.client();
     let client = take_client(clients, c);
     let sought = client.sought(request);
-    let found = look(nodes, sought);
+    let looked = look(nodes, sought);
+    let found = take_node(nodes, looked);
     let r = found.step(client, blocks, spare, differences, value, request);
     put_back(nodes, r.back);
+    put_others(nodes, r.others);
     put_client(clients, r.client);
     r.answer
 }
@@ -39,8 +43,8 @@ pub fn step(
 pub fn read(nodes: &[NodeRecord], out: &mut [u8], blocks: &[u8], request: ReadRequest) -> Answer
     ensures { λ r. ⌜ Reads (now (nodes .entry)) (now (out .entry)) (now (blocks .entry)) request r (now (out .exit)) ⌝ }
 {
-    let sought = request.sought();
-    let found = look(nodes, sought);
+    let looked = request.sought();
+    let found = take_node(nodes, looked);
     found.read(out, blocks, request)
 }
 
@@ -48,19 +52,23 @@ pub fn read(nodes: &[NodeRecord], out: &mut [u8], blocks: &[u8], request: ReadRe
 pub fn pick(
     nodes: &mut [NodeRecord],
     clients: &mut [ClientRecord],
+    blocks: &mut [u8],
     spare: &mut [u8],
-    blocks: &[u8],
+    differences: &mut [u8],
+    value: &[u8],
     request: PickRequest,
 ) -> Answer
-    ensures { λ r. ⌜ Picks (now (nodes .entry)) (now (clients .entry)) (now (spare .entry)) (now (blocks .entry)) request r
-        (now (nodes .exit)) (now (clients .exit)) (now (spare .exit)) ⌝ }
+    ensures { λ r. ⌜ PicksOnly (now (nodes .entry)) (now (clients .entry)) (now (blocks .entry)) (now (spare .entry)) (now (differences .entry))
+        (now (value .entry)) request r (now (nodes .exit)) (now (clients .exit)) (now (blocks .exit)) (now (spare .exit)) (now (differences .exit)) ⌝ }
 {
     let c = request.client();
     let client = take_client(clients, c);
-    let n = client.all(request);
-    let taken = take_all(nodes, n);
-    let r = taken.pick(client, spare, blocks, request);
+    let sought = client.sought_for_pick(request);
+    let looked = look(nodes, sought);
+    let taken = take_all(nodes, looked);
+    let r = taken.pick(client, blocks, spare, differences, value, request);
     put_back(nodes, r.back);
+    put_others(nodes, r.others);
     put_client(clients, r.client);
     r.answer
 }

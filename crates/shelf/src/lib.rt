@@ -5,14 +5,17 @@
 //     let c = request.client();
 //     let client = take_client(clients, c);
 //     let sought = client.sought(request);
-//     let found = look(nodes, sought);
+//     let looked = look(nodes, sought);
+//     let found = take_node(nodes, looked);
 //     let r = found.step(client, blocks, spare, differences, value, request);
 //     put_back(nodes, r.back);
+//     put_others(nodes, r.others);
 //     put_client(clients, r.client);
 //     r.answer
 //
-// A call on the whole stripe looks at each record where it lies (Seen), and changes the others where they lie (Change); for every other call the loop over
-// the table has one turn. A node that is not in the table counts as failed, a client as fresh. A table of another length than n or m is answered 1.
+// A call on the whole stripe looks at each record where it lies (Seen), and changes the others where they lie (Change); for every other call those two loops
+// over the table have no turn. A pick takes all records out instead of one. Step and pick have one parameter list, and a pick leaves what it does not need as
+// it is. A node that is not in the table counts as failed, a client as fresh. A table of another length than n or m is answered 1.
 //
 // The toolchain walks no function over a slice of structs by itself. So the functions of table.rt and entry.rt do nothing else, and each form is walked once,
 // as a law of the crate lent. All the rest is by value.
@@ -67,11 +70,17 @@ struct Sought {
     pub all: bool,
 }
 
-// What was seen, in a table of `len`, and the record of the node; that of a failed node if it is not there.
-struct Found {
+// What was seen of all nodes, in a table of `len`.
+struct Looked {
     pub sought: Sought,
     pub len: usize,
     pub seen: Seen,
+}
+
+// The record of the node too, out of a table of `len`; that of a failed node if it is not there.
+struct Found {
+    pub looked: Looked,
+    pub len: usize,
     pub node: NodeRecord,
 }
 
@@ -81,17 +90,22 @@ struct AllTaken {
     pub nodes: Nodes,
 }
 
-// What is put back into a table of `len`: node j's record, and what becomes of the others.
+// Node j's record, which is put back.
 struct Back {
     pub j: usize,
-    pub len: usize,
     pub node: NodeRecord,
+}
+
+// What becomes of the other nodes, in a table of `len`.
+struct Others {
+    pub len: usize,
     pub change: Change,
 }
 
 // What a call hands back.
 struct Returned {
     pub back: Back,
+    pub others: Others,
     pub client: TakenClient,
     pub answer: Answer,
 }

@@ -1,12 +1,15 @@
 // A pick, on the records of all nodes by value.
-ghost use mathlib.Core.Bool.{cond, _&&_};
+ghost use mathlib.Core.Bool.{_&&_};
 ghost use mathlib.Core.Path.{_≡_};
 ghost use lib.Dec.{eqb, leb};
-ghost use Rattle.shelf.specs.Picks.{allBegun, allEnd, allSeen, AfterPick, PicksAll};
+ghost use Rattle.shelf.specs.Picks.{allBegun, allEnd, allSeen, AfterPick, PickedAll};
 use crate::AllTaken;
 use crate::Back;
+use crate::Looked;
+use crate::Others;
 use crate::PickRequest;
 use crate::Returned;
+use crate::Sought;
 use crate::TakenClient;
 use calls::Answer;
 use picking::Picked;
@@ -25,18 +28,23 @@ impl PickRequest {
 }
 
 impl TakenClient {
-    // How many nodes there should be.
-    pub(crate) fn all(self, request: PickRequest) -> usize
-        ensures { λ r. ⌜ r ≡ request .z .n ⌝ }
+    // A pick looks for no node: it takes all.
+    pub(crate) fn sought_for_pick(self, request: PickRequest) -> Sought
+        ensures { λ r. ⌜ r .j ≡ 0 ⌝ }
     {
         let z = request.z;
-        z.n
+        Sought {
+            z: z,
+            c: request.c,
+            j: 0,
+            all: false,
+        }
     }
 }
 
 impl AllTaken {
-    pub(crate) fn begin(n: usize, len: usize) -> Self
-        ensures { λ r. ⌜ allBegun n len r ⌝ }
+    pub(crate) fn begin(looked: Looked, len: usize) -> Self
+        ensures { λ r. ⌜ allBegun looked len r ⌝ }
     {
         let failed = NodeRecord::failed();
         let items = [failed; 18];
@@ -93,10 +101,9 @@ impl AllTaken {
         let client = r.client;
         let change = r.change;
         let node = NodeRecord::failed();
-        let back = Back {
-            j: 0,
+        let back = Back { j: 0, node: node };
+        let others = Others {
             len: self.len,
-            node: node,
             change: change,
         };
         let taken = TakenClient {
@@ -106,6 +113,7 @@ impl AllTaken {
         };
         Returned {
             back: back,
+            others: others,
             client: taken,
             answer: answer,
         }
@@ -114,11 +122,14 @@ impl AllTaken {
     pub(crate) fn pick(
         self,
         taken: TakenClient,
+        blocks: &mut [u8],
         spare: &mut [u8],
-        blocks: &[u8],
+        differences: &mut [u8],
+        value: &[u8],
         request: PickRequest,
     ) -> Returned
-        ensures { λ r. ⌜ PicksAll self taken (now (spare .entry)) (now (blocks .entry)) request r (now (spare .exit)) ⌝ }
+        ensures { λ r. ⌜ PickedAll self taken (now (blocks .entry)) (now (spare .entry)) (now (differences .entry)) (now (value .entry)) request
+            r (now (blocks .exit)) (now (spare .exit)) (now (differences .exit)) ⌝ }
     {
         let z = request.z;
         let nodes = self.nodes;

@@ -1,12 +1,12 @@
 // A record that is taken out of its table, and put back: where the loops over the tables begin and end, and what a turn does.
-ghost use mathlib.Core.Bool.{cond, _&&_};
 ghost use mathlib.Core.Path.{_≡_};
-ghost use lib.Dec.{leb, ltb};
 ghost use Rattle.records.specs.View.{nodeOf};
-ghost use Rattle.stripe.specs.Seen.{firstOf, endOf, seenWith};
-ghost use Rattle.shelf.specs.Ranges.{placeOf, endAt, isAt, clientBegun, clientSeen, foundBegun, foundSeen, firstSought, endSought, touches, keepsOthers, firstBack, endBack, PutsNode};
+ghost use Rattle.stripe.specs.Seen.{firstOf, endOf, changedAt};
+ghost use Rattle.shelf.specs.Ranges.{placeOf, endAt, clientBegun, clientSeen, lookedBegun, lookedSeen, endLooked, foundBegun, foundSeen};
 use crate::Back;
 use crate::Found;
+use crate::Looked;
+use crate::Others;
 use crate::Seen;
 use crate::Sought;
 use crate::TakenClient;
@@ -25,22 +25,6 @@ fn end_at(j: usize, len: usize) -> usize
     ensures { λ r. ⌜ r ≡ endAt j len ⌝ }
 {
     if j <= len { j } else { 0 }
-}
-
-fn is_at(j: usize, i: usize) -> bool
-    ensures { λ r. ⌜ r ≡ isAt j i ⌝ }
-{
-    if j == 0 {
-        return false;
-    }
-    i == j - 1
-}
-
-// At place i: node j's record is `own`, the others are as they were.
-fn chosen(j: usize, i: usize, own: NodeRecord, old: NodeRecord) -> NodeRecord
-    ensures { λ r. ⌜ r ≡ cond (isAt j i) own old ⌝ }
-{
-    if is_at(j, i) { own } else { old }
 }
 
 impl TakenClient {
@@ -91,15 +75,62 @@ impl TakenClient {
 }
 
 impl Sought {
+    pub(crate) fn begin(self, len: usize) -> Looked
+        ensures { λ r. ⌜ lookedBegun self len r ⌝ }
+    {
+        let seen = Seen::none();
+        Looked {
+            sought: self,
+            len: len,
+            seen: seen,
+        }
+    }
+}
+
+impl Looked {
+    pub(crate) fn first(self) -> usize
+        ensures { λ r. ⌜ r ≡ 0 ⌝ }
+    {
+        0
+    }
+
+    pub(crate) fn end(self) -> usize
+        ensures { λ r. ⌜ r ≡ endLooked self ⌝ }
+    {
+        let sought = self.sought;
+        if sought.all { self.len } else { 0 }
+    }
+
+    // A record is shown. This is Seen::with, written out: a call of it would copy each record once more.
+    pub(crate) fn see(self, i: usize, node: NodeRecord) -> Self
+        ensures { λ r. ⌜ r ≡ lookedSeen self i node ⌝ }
+    {
+        let sought = self.sought;
+        let seen = self.seen;
+        let z = sought.z;
+        let opmode = node.opmode;
+        let within = seen.within & node.is_within(z);
+        let held = seen.held & node.held_by(sought.c);
+        let recons = seen.recons | opmode.is_recons();
+        let next = Seen {
+            within: within,
+            held: held,
+            recons: recons,
+        };
+        Looked {
+            sought: sought,
+            len: self.len,
+            seen: next,
+        }
+    }
+
     pub(crate) fn begin(self, len: usize) -> Found
         ensures { λ r. ⌜ foundBegun self len r ⌝ }
     {
         let node = NodeRecord::failed();
-        let seen = Seen::none();
         Found {
-            sought: self,
+            looked: self,
             len: len,
-            seen: seen,
             node: node,
         }
     }
@@ -107,102 +138,71 @@ impl Sought {
 
 impl Found {
     pub(crate) fn first(self) -> usize
-        ensures { λ r. ⌜ r ≡ firstSought (self .sought) ⌝ }
+        ensures { λ r. ⌜ r ≡ placeOf (self .looked .sought .j) ⌝ }
     {
-        let sought = self.sought;
-        if sought.all { 0 } else { place_of(sought.j) }
+        let looked = self.looked;
+        place_of(looked.sought.j)
     }
 
     pub(crate) fn end(self) -> usize
-        ensures { λ r. ⌜ r ≡ endSought (self .sought) (self .len) ⌝ }
+        ensures { λ r. ⌜ r ≡ endAt (self .looked .sought .j) (self .len) ⌝ }
     {
-        let sought = self.sought;
-        if sought.all {
-            self.len
-        } else {
-            end_at(sought.j, self.len)
-        }
+        let looked = self.looked;
+        end_at(looked.sought.j, self.len)
     }
 
-    fn looked(self, node: NodeRecord) -> Seen
-        ensures { λ r. ⌜ r ≡ cond (self .sought .all) (seenWith (self .sought .z) (self .sought .c) (nodeOf node) (self .seen)) (self .seen) ⌝ }
-    {
-        let sought = self.sought;
-        let seen = self.seen;
-        if sought.all {
-            let z = sought.z;
-            return seen.with(z, sought.c, node);
-        }
-        seen
-    }
-
-    // A record is shown.
     pub(crate) fn see(self, i: usize, node: NodeRecord) -> Self
         ensures { λ r. ⌜ r ≡ foundSeen self i node ⌝ }
     {
-        let sought = self.sought;
-        let old = self.node;
-        let kept = chosen(sought.j, i, node, old);
+        let looked = self.looked;
         Found {
-            sought: sought,
+            looked: looked,
             len: self.len,
-            seen: self.looked(node),
-            node: kept,
+            node: node,
         }
     }
 }
 
 impl Back {
-    fn keeps_others(self) -> bool
-        ensures { λ r. ⌜ r ≡ keepsOthers self ⌝ }
-    {
-        let change = self.change;
-        change.end(self.len) <= change.first(self.len)
-    }
-
-    // Whether the change touches the node at place i.
-    fn touches(self, i: usize) -> bool
-        ensures { λ r. ⌜ r ≡ touches self i ⌝ }
-    {
-        let change = self.change;
-        let first = change.first(self.len);
-        let end = change.end(self.len);
-        if i < first {
-            return false;
-        }
-        i < end
-    }
-
     pub(crate) fn first(self) -> usize
-        ensures { λ r. ⌜ r ≡ firstBack self ⌝ }
+        ensures { λ r. ⌜ r ≡ placeOf (self .j) ⌝ }
     {
-        if self.keeps_others() {
-            place_of(self.j)
-        } else {
-            0
-        }
+        place_of(self.j)
     }
 
     pub(crate) fn end_in(self, len: usize) -> usize
-        ensures { λ r. ⌜ r ≡ endBack self len ⌝ }
+        ensures { λ r. ⌜ r ≡ endAt (self .j) len ⌝ }
     {
-        if self.keeps_others() {
-            end_at(self.j, len)
-        } else {
-            len
-        }
+        end_at(self.j, len)
+    }
+
+    pub(crate) fn at(self, i: usize, old: NodeRecord) -> NodeRecord
+        ensures { λ r. ⌜ r ≡ self .node ⌝ }
+    {
+        self.node
+    }
+}
+
+impl Others {
+    pub(crate) fn first(self) -> usize
+        ensures { λ r. ⌜ r ≡ firstOf (self .change) (self .len) ⌝ }
+    {
+        let change = self.change;
+        change.first(self.len)
+    }
+
+    pub(crate) fn end_in(self, len: usize) -> usize
+        ensures { λ r. ⌜ r ≡ endOf (self .change) len ⌝ }
+    {
+        let change = self.change;
+        change.end(len)
     }
 
     // The record for place i, where `old` stands.
     pub(crate) fn at(self, i: usize, old: NodeRecord) -> NodeRecord
-        ensures { λ r. ⌜ PutsNode self i old r ⌝ }
+        ensures { λ r. ⌜ nodeOf r ≡ changedAt (self .change) i (nodeOf old) ⌝ }
     {
         let change = self.change;
-        let own = self.node;
-        let node = chosen(self.j, i, own, old);
-        if self.touches(i) {
-            return change.made(i, node);
-        }
-        node
+        change.made(i, old)
     }
 }

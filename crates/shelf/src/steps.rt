@@ -1,9 +1,11 @@
 // The client and the node of a call, and the call on what was taken out of the tables, by value.
 ghost use mathlib.Core.Path.{_≡_};
 ghost use Rattle.calls.specs.Calls.{caller};
-ghost use Rattle.shelf.specs.Step.{After, refusedOf, readSought, soughtFor, ReadsFound, StepsFound};
+ghost use Rattle.shelf.specs.Step.{After, refusedOf, soughtFor, ReadsFound, StepsFound};
 use crate::Back;
 use crate::Found;
+use crate::Looked;
+use crate::Others;
 use crate::ReadRequest;
 use crate::Request;
 use crate::Returned;
@@ -24,16 +26,18 @@ impl Request {
 }
 
 impl ReadRequest {
-    pub(crate) fn sought(self) -> Sought
-        ensures { λ r. ⌜ r ≡ readSought self ⌝ }
+    // A read is told nothing of the other nodes.
+    pub(crate) fn sought(self) -> Looked
+        ensures { λ r. ⌜ r .sought .j ≡ self .i ⌝ }
     {
         let z = self.z;
-        Sought {
+        let sought = Sought {
             z: z,
             c: 0,
             j: self.i as usize,
             all: false,
-        }
+        };
+        sought.begin(0)
     }
 }
 
@@ -59,17 +63,20 @@ impl Returned {
     fn refused(found: Found, client: TakenClient) -> Self
         ensures { λ r. ⌜ r ≡ refusedOf found client ⌝ }
     {
-        let sought = found.sought;
+        let looked = found.looked;
         let node = found.node;
         let change = Change::keep();
         let back = Back {
-            j: sought.j,
-            len: found.len,
+            j: looked.sought.j,
             node: node,
+        };
+        let others = Others {
+            len: found.len,
             change: change,
         };
         Returned {
             back: back,
+            others: others,
             client: client,
             answer: Answer::Refused(Refusal::OutOfLimits),
         }
@@ -78,15 +85,17 @@ impl Returned {
     fn after(found: Found, taken: TakenClient, r: Stepped) -> Self
         ensures { λ s. ⌜ After s found taken r ⌝ }
     {
-        let sought = found.sought;
+        let looked = found.looked;
         let answer = r.answer;
         let node = r.node;
         let client = r.client;
         let change = r.change;
         let back = Back {
-            j: sought.j,
-            len: found.len,
+            j: looked.sought.j,
             node: node,
+        };
+        let others = Others {
+            len: found.len,
             change: change,
         };
         let taken = TakenClient {
@@ -96,6 +105,7 @@ impl Returned {
         };
         Returned {
             back: back,
+            others: others,
             client: taken,
             answer: answer,
         }
@@ -117,7 +127,8 @@ impl Found {
     {
         let z = request.z;
         let call = request.call;
-        let seen = self.seen;
+        let looked = self.looked;
+        let seen = looked.seen;
         let node = self.node;
         let client = taken.client;
         if self.len != z.n {

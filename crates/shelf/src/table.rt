@@ -1,9 +1,11 @@
 // A table is looked at, and changed. Each of these is walked by a law.
 ghost use Rattle.shelf.specs.Picks.{AllTook};
-ghost use Rattle.shelf.specs.Table.{ClientTaken, NodeFound, PutBack, PutClient};
+ghost use Rattle.shelf.specs.Table.{ClientTaken, NodesSeen, NodeFound, PutBack, PutOthers, PutClient};
 use crate::AllTaken;
 use crate::Back;
 use crate::Found;
+use crate::Looked;
+use crate::Others;
 use crate::Sought;
 use crate::TakenClient;
 use records::ClientRecord;
@@ -37,11 +39,26 @@ pub(crate) fn put_client(clients: &mut [ClientRecord], taken: TakenClient)
     }
 }
 
-pub(crate) fn look(nodes: &[NodeRecord], sought: Sought) -> Found
-    ensures { λ r. ⌜ NodeFound (now (nodes .entry)) sought r ⌝ }
+pub(crate) fn look(nodes: &[NodeRecord], sought: Sought) -> Looked
+    ensures { λ r. ⌜ NodesSeen (now (nodes .entry)) sought r ⌝ }
 {
     let len = nodes.len();
-    let mut found = sought.begin(len);
+    let mut looked = sought.begin(len);
+    let mut i = looked.first();
+    let end = looked.end();
+    while i < end {
+        let node = nodes[i];
+        looked = looked.see(i, node);
+        i = i + 1;
+    }
+    looked
+}
+
+pub(crate) fn take_node(nodes: &[NodeRecord], looked: Looked) -> Found
+    ensures { λ r. ⌜ NodeFound (now (nodes .entry)) looked r ⌝ }
+{
+    let len = nodes.len();
+    let mut found = looked.begin(len);
     let mut i = found.first();
     let end = found.end();
     while i < end {
@@ -50,6 +67,21 @@ pub(crate) fn look(nodes: &[NodeRecord], sought: Sought) -> Found
         i = i + 1;
     }
     found
+}
+
+pub(crate) fn take_all(nodes: &[NodeRecord], looked: Looked) -> AllTaken
+    ensures { λ r. ⌜ AllTook (now (nodes .entry)) looked r ⌝ }
+{
+    let len = nodes.len();
+    let mut taken = AllTaken::begin(looked, len);
+    let mut i = taken.first();
+    let end = taken.end();
+    while i < end {
+        let node = nodes[i];
+        taken = taken.see(i, node);
+        i = i + 1;
+    }
+    taken
 }
 
 pub(crate) fn put_back(nodes: &mut [NodeRecord], back: Back)
@@ -65,17 +97,15 @@ pub(crate) fn put_back(nodes: &mut [NodeRecord], back: Back)
     }
 }
 
-pub(crate) fn take_all(nodes: &[NodeRecord], n: usize) -> AllTaken
-    ensures { λ r. ⌜ AllTook (now (nodes .entry)) n r ⌝ }
+pub(crate) fn put_others(nodes: &mut [NodeRecord], others: Others)
+    ensures { λ _. ⌜ PutOthers (now (nodes .entry)) others (now (nodes .exit)) ⌝ }
 {
     let len = nodes.len();
-    let mut taken = AllTaken::begin(n, len);
-    let mut i = taken.first();
-    let end = taken.end();
+    let mut i = others.first();
+    let end = others.end_in(len);
     while i < end {
         let node = nodes[i];
-        taken = taken.see(i, node);
+        nodes[i] = others.at(i, node);
         i = i + 1;
     }
-    taken
 }

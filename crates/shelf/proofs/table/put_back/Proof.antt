@@ -8,10 +8,10 @@ use Rattle.lent.proofs.Changing.{meets}
 use Rattle.lent.proofs.Side.{Ask, Ask2, Ask3}
 use Rattle.records.proofs.NodeRecord as node
 use Rattle.stripe.specs.View.{blankRecord}
-use Rattle.shelf.specs.Ranges.{firstBack, endBack, PutsNode}
+use Rattle.shelf.specs.Ranges.{placeOf, endAt}
 use Rattle.shelf.specs.Table.{PutBack}
 use Rattle.shelf.proofs.Back as back
-use Rattle.shelf.proofs.Tables.{back-ends, node-left}
+use Rattle.shelf.proofs.Tables.{ends-in, one-left}
 use Rattle.shelf.proofs.Types.{node-rec, back-rec}
 use Rattle.shelf.proofs.Back.first.Met as first-thm
 use Rattle.shelf.proofs.Back.first.Symbol as first-def
@@ -30,8 +30,8 @@ put-back-spec 𝓤 H 𝓜 𝓖 𝓡 =
     entered 𝓤 H (tripleOf 𝓤 H (𝓖 .A) this.signature (this.spec 𝓤 H (𝓖 .A) (𝓜 .mem) (𝓡 .run)))
     (tables 𝓤 H 𝓜 𝓡 code.env .C) (tables 𝓤 H 𝓜 𝓡 code.env .Λ) key.name code.function (code.unfolded 𝓤 H 𝓜 𝓡)
     (meets node.the-row back.the-row node-rec back-rec first-def.name end-def.name at-def.name
-    firstBack endBack PutsNode PutBack blankRecord tt back-ends node-left
+    (λ t. placeOf (t .j)) (λ t n. endAt (t .j) n) (λ t i old r. r ≡ t .node) PutBack blankRecord tt (λ t n. ends-in (t .j) n) (λ ys t zs c. one-left blankRecord (t .j) (t .node) ys zs c)
     𝓤 H (𝓖 .A) (givenOf 𝓤 H 𝓜 𝓖) (tablesOf 𝓤 H 𝓜 (tables 𝓤 H 𝓜 𝓡 code.env))
-    (cited 𝓤 H (Ask back.the-row usize (λ t r. r ≡ firstBack t) 𝓤 H (𝓖 .A)) 𝓜 𝓡 code.env first-def.name first-def.routine code.calls-shelf·Back·first (first-thm.met 𝓤 H 𝓜 𝓖 𝓡))
-    (cited 𝓤 H (Ask2 back.the-row usize usize (λ t n r. r ≡ endBack t n) 𝓤 H (𝓖 .A)) 𝓜 𝓡 code.env end-def.name end-def.routine code.calls-shelf·Back·end-in (end-thm.met 𝓤 H 𝓜 𝓖 𝓡))
-    (cited 𝓤 H (Ask3 back.the-row usize node.the-row node.the-row PutsNode 𝓤 H (𝓖 .A)) 𝓜 𝓡 code.env at-def.name at-def.routine code.calls-shelf·Back·at (at-thm.met 𝓤 H 𝓜 𝓖 𝓡)))
+    (cited 𝓤 H (Ask back.the-row usize (λ t r. r ≡ placeOf (t .j)) 𝓤 H (𝓖 .A)) 𝓜 𝓡 code.env first-def.name first-def.routine code.calls-shelf·Back·first (first-thm.met 𝓤 H 𝓜 𝓖 𝓡))
+    (cited 𝓤 H (Ask2 back.the-row usize usize (λ t n r. r ≡ endAt (t .j) n) 𝓤 H (𝓖 .A)) 𝓜 𝓡 code.env end-def.name end-def.routine code.calls-shelf·Back·end-in (end-thm.met 𝓤 H 𝓜 𝓖 𝓡))
+    (cited 𝓤 H (Ask3 back.the-row usize node.the-row node.the-row (λ t i old r. r ≡ t .node) 𝓤 H (𝓖 .A)) 𝓜 𝓡 code.env at-def.name at-def.routine code.calls-shelf·Back·at (at-thm.met 𝓤 H 𝓜 𝓖 𝓡)))

@@ -11,7 +11,7 @@ use Rattle.shelf.specs.Ranges.{placeOf, endAt}
 use Rattle.step.specs.View.{blankClient}
 use Rattle.shelf.specs.Table.{PutClient}
 use Rattle.shelf.proofs.TakenClient as taken
-use Rattle.shelf.proofs.Tables.{ends-in, client-left}
+use Rattle.shelf.proofs.Tables.{ends-in, one-left}
 use Rattle.shelf.proofs.Types.{client-rec, taken-rec}
 use Rattle.shelf.proofs.TakenClient.first.Met as first-thm
 use Rattle.shelf.proofs.TakenClient.first.Symbol as first-def
@@ -30,7 +30,7 @@ put-client-spec 𝓤 H 𝓜 𝓖 𝓡 =
     entered 𝓤 H (tripleOf 𝓤 H (𝓖 .A) this.signature (this.spec 𝓤 H (𝓖 .A) (𝓜 .mem) (𝓡 .run)))
     (tables 𝓤 H 𝓜 𝓡 code.env .C) (tables 𝓤 H 𝓜 𝓡 code.env .Λ) key.name code.function (code.unfolded 𝓤 H 𝓜 𝓡)
     (meets client.the-row taken.the-row client-rec taken-rec first-def.name end-def.name at-def.name
-    (λ t. placeOf (t .c)) (λ t n. endAt (t .c) n) (λ t i old r. r ≡ t .client) PutClient blankClient tt (λ t n. ends-in (t .c) n) client-left
+    (λ t. placeOf (t .c)) (λ t n. endAt (t .c) n) (λ t i old r. r ≡ t .client) PutClient blankClient tt (λ t n. ends-in (t .c) n) (λ ys t zs c. one-left blankClient (t .c) (t .client) ys zs c)
     𝓤 H (𝓖 .A) (givenOf 𝓤 H 𝓜 𝓖) (tablesOf 𝓤 H 𝓜 (tables 𝓤 H 𝓜 𝓡 code.env))
     (cited 𝓤 H (Ask taken.the-row usize (λ t r. r ≡ placeOf (t .c)) 𝓤 H (𝓖 .A)) 𝓜 𝓡 code.env first-def.name first-def.routine code.calls-shelf·TakenClient·first (first-thm.met 𝓤 H 𝓜 𝓖 𝓡))
     (cited 𝓤 H (Ask2 taken.the-row usize usize (λ t n r. r ≡ endAt (t .c) n) 𝓤 H (𝓖 .A)) 𝓜 𝓡 code.env end-def.name end-def.routine code.calls-shelf·TakenClient·end-in (end-thm.met 𝓤 H 𝓜 𝓖 𝓡))
