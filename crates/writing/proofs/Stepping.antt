@@ -16,7 +16,7 @@ use Rattle.machine.specs.Stripe.{Outcome, Local, number}
 use Rattle.machine.specs.Writing.{unless}
 use Rattle.calls.specs.declared.AtNode.{AtNode}
 use Rattle.calls.specs.declared.Answer.{Answer}
-use Rattle.calls.specs.declared.Answer.the-variants.{Accepted, Shown, Added, Done, CheckInit, CheckGc, NoChange, Rebuilt, Refused}
+use Rattle.calls.specs.declared.Answer.the-variants.{Accepted, Shown, Added, Done, Rebuilt, Told, Refused}
 use Rattle.calls.specs.Answers.{answerOf, isUnchanged, Meets, local}
 use Rattle.calls.proofs.Left.{left-free}
 use Rattle.limits.proofs.Returns.{refused-at-node}
@@ -40,10 +40,8 @@ accepted-changes Accepted e = refl
 accepted-changes Shown e = refl
 accepted-changes Added e = refl
 accepted-changes Done e = refl
-accepted-changes CheckInit e = refl
-accepted-changes CheckGc e = refl
-accepted-changes NoChange e = refl
 accepted-changes Rebuilt e = refl
+accepted-changes (Told finding) e = refl
 accepted-changes (Refused why) e = never-zero why refl e
 
 module _ {effect : Outcome Local} {node : NodeRecord} {client : ClientRecord} {r : AtNode} where

@@ -16,8 +16,8 @@ within-spec =
     (λ c κs. search needs)
     (λ c.
     let z = c .before .before .before .args .self in
-    omega (arith, sizes-of (z .k) (z .n) (z .b) (sym (c .before .before .is-code .ensures) ∙ c .before .if1 .taken)))
-    (λ c κs. search needs)
+    omega (arith, sizes-of (z .k) (z .n) (z .b) (sym (c .before .before .hold .ensures) ∙ c .before .if1 .taken)))
+    (λ c. search tests)
     (λ c. search tests)
     (λ c. search tests)
     (λ c. search tests))
