@@ -158,19 +158,26 @@ fn main() {
     let rows = rows();
     println!("GB/s of bytes multiplied     B     library    row loop   ratio");
     let [_, _, added] = LENGTHS.map(|b| multiply_add(&rows, b));
-    let [_, _, encoded] = LENGTHS.map(|b| encode_12_6(&rows, b));
+    let [small, _, encoded] = LENGTHS.map(|b| encode_12_6(&rows, b));
     let [_, _, decoded] = LENGTHS.map(|b| decode_6_lost(&rows, b));
     println!("Encode and decode write their whole output in each call; the row loop clears its own, within its time.");
     println!("Multiply-add adds to the same block again and again, and nothing clears it. All buffers stay in the cache.");
     aim("multiply-add at 4096, ratio", added.1, 1.5);
     aim("encode 12+6 at 4096, ratio", encoded.1, 2.5);
+    let call = (K * LENGTHS[0] * LOST) as f64 / small.0 / 1e3;
+    met(
+        "a call of encode 12+6 at 64, microseconds",
+        call,
+        "at most 0.85",
+        call <= 0.85,
+    );
     // Decoding puts out K blocks, of which LOST are computed and the rest copied; encoding puts out N - K.
     let beside = decoded.0 / encoded.0;
     let output = K as f64 / LOST as f64;
     aim(
         "decode beside encode, per byte of output",
         beside * output,
-        0.8,
+        0.95,
     );
     println!("decode beside encode, per byte of a lost block: {beside:.2}");
 }

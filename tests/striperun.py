@@ -3,7 +3,8 @@
     striperun.py PROGRAM SEED
 
 Plays random lists of calls for each of the sizes below, lists with many
-damaged lines, and inputs that are odd as a whole. Prints how many calls of
+damaged lines, inputs that are odd as a whole, and a list in which a write
+becomes so old that its nodes are due. Prints how many calls of
 each kind were accepted, how often each answer was given and how many rebuilds
 were finished; stops at the first difference with an error exit.
 """

@@ -69,11 +69,3 @@ impl Doublings {
         add_bit(s, self.c0, p1)
     }
 }
-
-// The product of two bytes. Where many are wanted this is quicker than by the tables: a table is copied to the stack wherever it is read.
-pub fn multiply(a: u8, b: u8) -> u8
-    ensures { λ r. ⌜ r ≡ product a b ⌝ }
-{
-    let m = Doublings::of(a);
-    m.times(b)
-}

@@ -1,4 +1,4 @@
--- The kernel's loop over tiles (src/kernel.rt): after each tile the bytes of all blocks up to its end are there. Assumes nothing.
+-- The kernel's loop over tiles (src/lib.rt): after each tile the bytes of all blocks up to its end are there. Assumes nothing.
 use mathlib.Core.List.{List}
 use mathlib.Core.Path.{_≡_, refl, sym, ap, _∙_}
 use Prim.Native.Nat.{ℕ, suc, _+_, _-_, _*_, _≤_, _<_}

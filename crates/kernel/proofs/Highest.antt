@@ -1,4 +1,4 @@
--- The kernel's sums by bits (src/kernel.rt): what the digits of the packed weights choose from the sums of a tile, added up from the highest bit
+-- The kernel's sums by bits (src/bits.rt): what the digits of the packed weights choose from the sums of a tile, added up from the highest bit
 -- down, is the sum of the sources times their weights. Assumes nothing.
 use mathlib.Core.List.{List}
 use mathlib.Core.Path.{_≡_, refl, sym, ap, subst, _∙_}

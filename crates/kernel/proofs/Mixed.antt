@@ -1,4 +1,4 @@
--- From the twelve blocks at given starts to the blocks of given nodes (src/kernel.rt). Assumes nothing.
+-- From the twelve blocks at given starts to the blocks of given nodes (src/lib.rt). Assumes nothing.
 use mathlib.Core.List.{List}
 use mathlib.Core.Path.{_≡_, refl, sym, ap, _∙_}
 use Prim.Native.Nat.{ℕ, zero, suc, _+_, _-_, _*_, _≤_, _<_}

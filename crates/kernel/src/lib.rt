@@ -37,7 +37,7 @@ fn tile_of(n: usize) -> usize
 }
 
 // Each of the m blocks of out, of b bytes, becomes the sum of the twelve blocks of t at the starts, each times its weight: block j has row j of the
-// rows. (The sums of a tile take 12,288 bytes; with 8 more they lie even on the stack, which is worth a seventh of the time.)
+// rows. (The sums of a tile take 12,288 bytes; with 8 more they lie even on the stack, which is worth a twelfth of the time.)
 fn combine(out: &mut [u8], m: usize, b: usize, t: &[u8], starts: &[usize; 12], rows: &[u8])
     requires { ⌜ (m ≤ 256) × (length (now out) ≡ m * b) × (length (now rows) ≡ m * 12) × Sources b (now t) (now starts) ⌝ }
     ensures { λ _. ⌜ now (out .exit) ≡ table m b (λ j. combined (now (t .entry)) (now (starts .entry)) (block 12 j (now (rows .entry)))) ⌝ }

@@ -106,7 +106,8 @@ callOf letter (a ∷ b ∷ []) = cond (eqb letter 78) (withValue (numeral a) (by
 callOf letter (a ∷ b ∷ v ∷ []) = cond (eqb letter 83) (withThree (numeral a) (numeral b) (bytesOf v)) none
 callOf letter (a ∷ b ∷ v ∷ w ∷ more) = none
 
--- the call that a line of striperun stands for; none if it is unreadable. A value may have any number of bytes: the call itself refuses a wrong one with 1
+-- the call that a line of striperun stands for; none if it is unreadable. A value may have any number of bytes: the call itself refuses a wrong one
+-- with 1
 unfoldable pub lineOf : List (List ℕ) → Option Call
 lineOf [] = none
 lineOf ([] ∷ more) = none
