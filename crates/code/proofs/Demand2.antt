@@ -11,9 +11,9 @@ use Rattle.blocks.specs.Blocks.{block, byteAt, table, Bytes}
 use Rattle.blocks.proofs.Tables.{byteAt-table, table-cong, table-self, table-append, getD-block}
 use Rattle.basics.proofs.Tests.{never-both, and-left, and-right}
 use Rattle.code.specs.Code.{codeSizes, symbol, codeword, redundant, Codeword}
-use Rattle.code.specs.Calls.{numberOf, encoding, decoding, isIn, someOutside, given}
+use Rattle.code.specs.Calls.{codeNumber, encoding, decoding, isIn, someOutside, givenSet}
 use Rattle.code.specs.Decode.{NodeSet, size, invertible, lowest, recovered, recoveredTable}
-use Rattle.code.specs.Demand2.{EncodingMakesCodewords, Holds, DecodingGivesBack, CallsGiveBack, NeverNoInverse}
+use Rattle.code.specs.Demand2.{EncodingMakesCodewords, HoldsCodeword, DecodingGivesBack, CallsGiveBack, NeverNoInverse}
 use Rattle.code.proofs.NodeSets.{setOf-has, length-setOf, lowest-from, lowest-has, lowest-chosen, lowest-invertible}
 use Rattle.code.proofs.Recover.{Chosen, recover-symbol}
 use Rattle.code.proofs.Sizes.{Sizes, sizes-of}
@@ -53,7 +53,7 @@ encoding-makes-codewords k n b d sizes l =
 
 -- ---- decoding
 
-module _ (k n b : ℕ) (set : NodeSet) (t d : List ℕ) (z : Sizes k n b) (bytes : Bytes d) (h : Holds k n b set t d) where
+module _ (k n b : ℕ) (set : NodeSet) (t d : List ℕ) (z : Sizes k n b) (bytes : Bytes d) (h : HoldsCodeword k n b set t d) where
   chosen : Chosen k (lowest set)
   chosen = lowest-chosen k set (λ j e. omega (arith, h .nodes j e)) (h .enough)
 
@@ -101,15 +101,15 @@ is-in-most n (x ∷ xs) j e i =
     by true q i here rest = omega (arith, eqb-true x j q)
     by false q i here rest = rest i
 
-pub given-invertible : (k : ℕ) (nodes : List ℕ) → k ≤ 256 → k ≤ size (given nodes) → invertible k (lowest (given nodes)) ≡ true
-given-invertible k nodes = lowest-invertible k (given nodes) (omega (arith, length-setOf (isIn nodes)))
+pub given-invertible : (k : ℕ) (nodes : List ℕ) → k ≤ 256 → k ≤ size (givenSet nodes) → invertible k (lowest (givenSet nodes)) ≡ true
+given-invertible k nodes = lowest-invertible k (givenSet nodes) (omega (arith, length-setOf (isIn nodes)))
 
 pub calls-give-back : CallsGiveBack
 calls-give-back k n b d room t nodes out sizes bytes ld lr lt lo inside enough same =
     let z : Sizes k n b = sizes-of k n b sizes in
-    let set : NodeSet = given nodes in
+    let set : NodeSet = givenSet nodes in
     let encoded : encoding k n b d room .out ≡ redundant k n b d = rw (sizes, eq-eqb (length d) (k * b) ld, eq-eqb (length room) ((n - k) * b) lr) in
-    let holds : Holds k n b set t d =
+    let holds : HoldsCodeword k n b set t d =
     record {
       enough = enough;
       nodes = λ j e. is-in-most n nodes j inside (setOf-has (isIn nodes) j e);
@@ -133,18 +133,18 @@ never-no-inverse k n b nodes t out e = limits fit refl
     fit : Bool
     fit = codeSizes k n b && (eqb (length t) (n * b) && eqb (length out) (k * b))
 
-    number : numberOf (decoding k n b nodes t out .answer) ≡ 12
-    number = ap numberOf e
+    number : codeNumber (decoding k n b nodes t out .answer) ≡ 12
+    number = ap codeNumber e
 
-    few : (r : Bool) → ltb (size (given nodes)) k ≡ r → fit ≡ true → someOutside n nodes ≡ false → ⊥
+    few : (r : Bool) → ltb (size (givenSet nodes)) k ≡ r → fit ≡ true → someOutside n nodes ≡ false → ⊥
     few true f q o = omega (arith, rw (q, o, f) at number)
     few false f q o =
         let z : Sizes k n b = sizes-of k n b (and-left (codeSizes k n b) (eqb (length t) (n * b) && eqb (length out) (k * b)) q) in
-        omega (arith, rw (q, o, f, given-invertible k nodes (omega arith) (ltb-false (size (given nodes)) k f)) at number)
+        omega (arith, rw (q, o, f, given-invertible k nodes (omega arith) (ltb-false (size (givenSet nodes)) k f)) at number)
 
     outside : (r : Bool) → someOutside n nodes ≡ r → fit ≡ true → ⊥
     outside true o q = omega (arith, rw (q, o) at number)
-    outside false o q = few (ltb (size (given nodes)) k) refl q o
+    outside false o q = few (ltb (size (givenSet nodes)) k) refl q o
 
     limits : (r : Bool) → fit ≡ r → ⊥
     limits true q = outside (someOutside n nodes) refl q

@@ -11,12 +11,12 @@ use Rattle.code.specs.declared.CodeAnswer.{CodeAnswer}
 use Rattle.code.specs.declared.CodeAnswer.the-variants.{Accepted, OutOfLimits, OutOfRange, TooFew, NoInverse}
 
 -- "Numbers of the answers"
-abbrev pub numberOf : CodeAnswer → ℕ
-numberOf Accepted = 0
-numberOf OutOfLimits = 1
-numberOf OutOfRange = 2
-numberOf (TooFew size) = 11
-numberOf NoInverse = 12
+abbrev pub codeNumber : CodeAnswer → ℕ
+codeNumber Accepted = 0
+codeNumber OutOfLimits = 1
+codeNumber OutOfRange = 2
+codeNumber (TooFew size) = 11
+codeNumber NoInverse = 12
 
 -- a call's answer, and the buffer that it writes, after it
 pub record Coded : Type 0 where
@@ -40,8 +40,8 @@ someOutside n [] = false
 someOutside n (x ∷ xs) = not (leb 1 x && leb x n) || someOutside n xs
 
 -- a node given twice is in the set once
-abbrev pub given : List ℕ → NodeSet
-given nodes = setOf (isIn nodes)
+abbrev pub givenSet : List ℕ → NodeSet
+givenSet nodes = setOf (isIn nodes)
 
 -- the set's nodes in any order, the table of n blocks lent, of which those of the set are read, and room for the k data blocks
 abbrev pub decoding : ℕ → ℕ → ℕ → List ℕ → List ℕ → List ℕ → Coded
@@ -50,8 +50,8 @@ decoding k n b nodes blocks out =
     (record { answer = OutOfLimits; out = out })
     (cond (someOutside n nodes)
     (record { answer = OutOfRange; out = out })
-    (cond (ltb (size (given nodes)) k)
-    (record { answer = TooFew (size (given nodes)); out = out })
-    (cond (not (invertible k (lowest (given nodes))))
+    (cond (ltb (size (givenSet nodes)) k)
+    (record { answer = TooFew (size (givenSet nodes)); out = out })
+    (cond (not (invertible k (lowest (givenSet nodes))))
     (record { answer = NoInverse; out = out })
-    (record { answer = Accepted; out = recoveredTable k k b (given nodes) blocks }))))
+    (record { answer = Accepted; out = recoveredTable k k b (givenSet nodes) blocks }))))

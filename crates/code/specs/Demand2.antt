@@ -8,7 +8,7 @@ use Prim.Native.Nat.{ℕ, _-_, _*_, _≤_}
 use lib.ListN.{length}
 use Rattle.blocks.specs.Blocks.{block, Bytes}
 use Rattle.code.specs.Code.{codeSizes, codeword, redundant, Codeword}
-use Rattle.code.specs.Calls.{encoding, decoding, isIn, someOutside, given}
+use Rattle.code.specs.Calls.{encoding, decoding, isIn, someOutside, givenSet}
 use Rattle.code.specs.declared.CodeAnswer.the-variants.{Accepted, NoInverse}
 use Rattle.code.specs.Decode.{NodeSet, has, size, lowest, recoveredTable}
 
@@ -21,7 +21,7 @@ abbrev pub EncodingMakesCodewords : Type 0
 EncodingMakesCodewords = (k n b : ℕ) (d : List ℕ) → codeSizes k n b ≡ true → length d ≡ k * b → Encoded k n b d
 
 -- the table t and a set of its nodes: the k lowest members hold the blocks of the codeword of d, and the others hold anything
-pub record Holds (k n b : ℕ) (set : NodeSet) (t d : List ℕ) : Type 0 where
+pub record HoldsCodeword (k n b : ℕ) (set : NodeSet) (t d : List ℕ) : Type 0 where
   pub enough : k ≤ size set
   pub nodes : (j : ℕ) → has set j ≡ true → j ≤ n
   pub blocks : (q : ℕ) → 1 ≤ q → q ≤ k → block b (lowest set q) t ≡ block b (lowest set q) (codeword k n b d)
@@ -33,7 +33,7 @@ pub record Decoded (k n b : ℕ) (set : NodeSet) (t d : List ℕ) : Type 0 where
 
 abbrev pub DecodingGivesBack : Type 0
 DecodingGivesBack =
-    (k n b : ℕ) (set : NodeSet) (t d : List ℕ) → codeSizes k n b ≡ true → length d ≡ k * b → Bytes d → Holds k n b set t d
+    (k n b : ℕ) (set : NodeSet) (t d : List ℕ) → codeSizes k n b ≡ true → length d ≡ k * b → Bytes d → HoldsCodeword k n b set t d
     → Decoded k n b set t d
 
 -- the two calls: data that were encoded, read at nodes of which k or more differ, are accepted and come back
@@ -41,7 +41,7 @@ abbrev pub CallsGiveBack : Type 0
 CallsGiveBack =
     (k n b : ℕ) (d room t nodes out : List ℕ) → codeSizes k n b ≡ true → Bytes d
     → length d ≡ k * b → length room ≡ (n - k) * b → length t ≡ n * b → length out ≡ k * b
-    → someOutside n nodes ≡ false → k ≤ size (given nodes)
+    → someOutside n nodes ≡ false → k ≤ size (givenSet nodes)
     → ((j : ℕ) → isIn nodes j ≡ true → block b j t ≡ block b j (d ++ encoding k n b d room .out))
     → decoding k n b nodes t out ≡ record { answer = Accepted; out = d }
 

@@ -1,7 +1,7 @@
 // The code: its sizes, its coefficients, sets of nodes, and the answers of encoding and decoding (which are in crate coding).
 ghost use mathlib.Core.Path.{_≡_};
 ghost use Prim.Native.Nat.{_≤_};
-ghost use Rattle.code.specs.Calls.{numberOf};
+ghost use Rattle.code.specs.Calls.{codeNumber};
 ghost use Rattle.code.specs.Code;
 
 pub mod nodes; // nodes.rt: sets of nodes
@@ -22,7 +22,7 @@ pub enum CodeAnswer {
 impl CodeAnswer {
     // The number of the answer in document 01's table.
     pub fn number(self) -> u8
-        ensures { λ r. ⌜ r ≡ numberOf self ⌝ }
+        ensures { λ r. ⌜ r ≡ codeNumber self ⌝ }
     {
         match self {
             CodeAnswer::Accepted => 0,

@@ -11,7 +11,7 @@ use Rattle.blocks.specs.Blocks.{block, table, byteAt}
 use Rattle.blocks.proofs.Parts.{part-at}
 use Rattle.blocks.proofs.Tables.{table-cong}
 use Rattle.code.specs.Code.{coefficient, symbol}
-use Rattle.kernel.specs.Combine.{nth, mixed, Holds, Rows}
+use Rattle.kernel.specs.Combine.{nth, mixed, HasBlocks, Rows}
 use Rattle.coding.specs.Weights.{First, dataWeight}
 use Rattle.gf256.proofs.Sum.{All}
 use Rattle.code.proofs.Symbols.{symbol-redundant}
@@ -28,7 +28,7 @@ module _ (k j i : ℕ) where
   weight-out l = rw (le-ltb i k l)
 
 module _ (b : ℕ) (t nodes : List ℕ) (f : First nodes) (k : ℕ) (k12 : k ≤ 12) where
-  pub data-held : k * b ≤ length t → Holds b t (take k nodes)
+  pub data-held : k * b ≤ length t → HasBlocks b t (take k nodes)
   data-held h = record { fits = fits }
     where
       fits : (q : ℕ) → q < length (take k nodes) → getD (take k nodes) q 0 * b ≤ length t

@@ -12,7 +12,7 @@ use borrow.Author.Tests.{le-leb, lt-leb}
 use Rattle.basics.specs.Lists.{listOf}
 use Rattle.basics.proofs.Lists.{listOf-cong}
 use Rattle.code.specs.Decode.{setOf, including}
-use Rattle.code.specs.Calls.{isIn, someOutside, given}
+use Rattle.code.specs.Calls.{isIn, someOutside, givenSet}
 use Rattle.code.proofs.Invertible.{eqb-comm}
 use Rattle.code.proofs.NodeSets.{has-setOf}
 
@@ -48,7 +48,7 @@ is-in-last (y ∷ xs) x j = rw (isIn, is-in-last xs x j) (sym (or-assoc (eqb y j
 
 -- one node more
 pub given-next : (nodes : List ℕ) (i : ℕ) → i < length nodes
-    → including (getD nodes i 0) (given (take i nodes)) ≡ given (take (i + 1) nodes)
+    → including (getD nodes i 0) (givenSet (take i nodes)) ≡ givenSet (take (i + 1) nodes)
 unfolding setOf
 given-next nodes i l =
     listOf-cong 18 _ _
@@ -59,5 +59,5 @@ given-next nodes i l =
     turned : (b : Bool) (x y : ℕ) → (b || eqb x y) ≡ (eqb y x || b)
     turned b x y = or-comm b (eqb x y) ∙ ap (λ e. e || b) (eqb-comm x y)
 
-pub given-all : (nodes : List ℕ) (i : ℕ) → length nodes ≤ i → given (take i nodes) ≡ given nodes
+pub given-all : (nodes : List ℕ) (i : ℕ) → length nodes ≤ i → givenSet (take i nodes) ≡ givenSet nodes
 given-all nodes i l = rw (take-all i nodes l)

@@ -9,8 +9,8 @@ use lib.Seq.{length-take-le, getD-take}
 use Rattle.blocks.specs.Blocks.{byteAt, table}
 use Rattle.blocks.proofs.Tables.{table-cong}
 use Rattle.code.specs.Decode.{has, size, members, lowest, recovered, recoveredTable}
-use Rattle.kernel.specs.Combine.{nth, Holds, Nodes}
-use Rattle.coding.specs.Weights.{Rising, restored}
+use Rattle.kernel.specs.Combine.{nth, HasBlocks, Nodes}
+use Rattle.coding.specs.Weights.{Rising, restoredByte}
 use Rattle.gf256.proofs.Sum.{All}
 use Rattle.code.proofs.NodeSets.{lowest-from, lowest-has, lowest-rises}
 use Rattle.code.proofs.Members.{Lists}
@@ -40,12 +40,12 @@ module _ (s : List Bool) (r : List ℕ) (at : Lists (members s) r) (k : ℕ) (en
       let n = lowest-count in
       record { rises = λ p q pq l. rw (lowest-at p (omega arith), lowest-at q (omega arith)) (lowest-rises s (suc p) (suc q) (omega arith) (omega arith) (omega arith)) }
 
-  pub lowest-held : (b : ℕ) (t : List ℕ) → ((j : ℕ) → has s j ≡ true → j * b ≤ length t) → Holds b t nodes
+  pub lowest-held : (b : ℕ) (t : List ℕ) → ((j : ℕ) → has s j ≡ true → j * b ≤ length t) → HasBlocks b t nodes
   lowest-held b t held =
       let n = lowest-count in
       record { fits = λ q l. rw (lowest-at q (omega arith)) (held (lowest s (suc q)) (lowest-has s (suc q) (omega arith) (omega arith))) }
 
-  pub lowest-restored : (m b : ℕ) (t : List ℕ) → table m b (restored b t nodes) ≡ recoveredTable k m b s t
+  pub lowest-restored : (m b : ℕ) (t : List ℕ) → table m b (restoredByte b t nodes) ≡ recoveredTable k m b s t
   unfolding recoveredTable
   lowest-restored m b t =
       table-cong m b _ _

@@ -17,8 +17,8 @@ use Rattle.blocks.proofs.Parts.{part-at, set-length, put-in, put-before}
 use Rattle.blocks.proofs.Tables.{length-table, byteAt-table, table-ext, table-cong}
 use Rattle.code.specs.Code.{sum}
 use Rattle.code.specs.Decode.{recover, recovered}
-use Rattle.kernel.specs.Combine.{nth, mixed, Holds, Rows, Nodes}
-use Rattle.coding.specs.Weights.{Rising, Lost, Held, Recovers, unitWeight, restored}
+use Rattle.kernel.specs.Combine.{nth, mixed, HasBlocks, Rows, Nodes}
+use Rattle.coding.specs.Weights.{Rising, Lost, Held, Recovers, unitWeight, restoredByte}
 use Rattle.blocks.proofs.Entries.{zeros-at}
 use Rattle.gf256.proofs.Sum.{All, sum-one}
 use Rattle.code.proofs.Recover.{Chosen, recovered-present}
@@ -91,7 +91,7 @@ module _ (m : ℕ) (nodes r : List ℕ) (few : length nodes ≤ 12) (is : RowsOf
   recovered-rows = record { zero = λ j q lj lk lq. getD-take (m * 12) r (j * 12 + q) 0 (omega arith) ∙ is j lj .tail q lk lq }
 
   module _ (b : ℕ) (t : List ℕ) (bytes : Bytes t) (chosen : Chosen (length nodes) (nth nodes)) where
-    one-block : (j p : ℕ) → 1 ≤ j → j ≤ m → p < b → mixed b t nodes (block 12 j rows) p ≡ restored b t nodes j p
+    one-block : (j p : ℕ) → 1 ≤ j → j ≤ m → p < b → mixed b t nodes (block 12 j rows) p ≡ restoredByte b t nodes j p
     unfolding recovered byteAt unitWeight
     one-block j p j1 jm pb = by (is (j - 1) (omega arith) .either)
       where
@@ -106,7 +106,7 @@ module _ (m : ℕ) (nodes r : List ℕ) (few : length nodes ≤ 12) (is : RowsOf
         byte q = byteAt b t (nth nodes q) p
 
         by : Lost nodes (suc (j - 1)) (λ q. getD r ((j - 1) * 12 + q) 0) ⊎ Held nodes (suc (j - 1)) (λ q. getD r ((j - 1) * 12 + q) 0)
-            → mixed b t nodes (block 12 j rows) p ≡ restored b t nodes j p
+            → mixed b t nodes (block 12 j rows) p ≡ restoredByte b t nodes j p
         by (inl lost) =
             mixed-is b t nodes (block 12 j rows) (length nodes) (recover (length nodes) (nth nodes) j) (nth nodes) refl
             (λ q q1 qk.
@@ -124,14 +124,14 @@ module _ (m : ℕ) (nodes r : List ℕ) (few : length nodes ≤ 12) (is : RowsOf
             ∙ ap (λ w. product w (byte q0)) (ap (unitWeight (held .place)) here ∙ rw (eq-eqb (held .place) (held .place) refl))
             ∙ one-product (byte q0) small
             ∙ sym (recovered-present (length nodes) (nth nodes) (omega arith) chosen byte q0 (omega arith) (omega (arith, held .among)) small)
-            ∙ ap (λ j. restored b t nodes j p) own
+            ∙ ap (λ j. restoredByte b t nodes j p) own
 
-    pub restored-table : table m b (λ j. mixed b t nodes (block 12 j rows)) ≡ table m b (restored b t nodes)
+    pub restored-table : table m b (λ j. mixed b t nodes (block 12 j rows)) ≡ table m b (restoredByte b t nodes)
     restored-table = table-cong m b _ _ one-block
 
 -- no node recovers nothing
-pub restored-none : (m b : ℕ) (t nodes : List ℕ) → length nodes ≡ 0 → replicate (m * b) 0 ≡ table m b (restored b t nodes)
+pub restored-none : (m b : ℕ) (t nodes : List ℕ) → length nodes ≡ 0 → replicate (m * b) 0 ≡ table m b (restoredByte b t nodes)
 unfolding recovered sum byteAt
 restored-none m b t nodes e =
-    table-ext m b (replicate (m * b) 0) (table m b (restored b t nodes)) (length-replicate (m * b) 0) (length-table m b (restored b t nodes))
-    (λ j p j1 jm pb. zeros-at (m * b) ((j - 1) * b + p) ∙ sym (byteAt-table m b (restored b t nodes) j p j1 jm pb ∙ rw e))
+    table-ext m b (replicate (m * b) 0) (table m b (restoredByte b t nodes)) (length-replicate (m * b) 0) (length-table m b (restoredByte b t nodes))
+    (λ j p j1 jm pb. zeros-at (m * b) ((j - 1) * b + p) ∙ sym (byteAt-table m b (restoredByte b t nodes) j p j1 jm pb ∙ rw e))

@@ -43,8 +43,8 @@ pub record Shares (nodes r : List ℕ) : Type 0 where
   pub at : (q : ℕ) → q < length nodes → IsShare nodes (suc q) (getD r q 0)
 
 -- byte p of node j's block, from the blocks of b bytes of the nodes
-abbrev pub restored : ℕ → List ℕ → List ℕ → ℕ → ℕ → ℕ
-restored b t nodes j p = recovered (length nodes) (nth nodes) (λ q. byteAt b t (nth nodes q) p) j
+abbrev pub restoredByte : ℕ → List ℕ → List ℕ → ℕ → ℕ → ℕ
+restoredByte b t nodes j p = recovered (length nodes) (nth nodes) (λ q. byteAt b t (nth nodes q) p) j
 
 -- the weight in the redundant node j of the data node that i nodes stand before, and 0 past the k data nodes
 unfoldable pub dataWeight : ℕ → ℕ → ℕ → ℕ

@@ -5,7 +5,7 @@ ghost use Prim.Native.Nat.{_*_};
 ghost use lib.ListN.{length};
 ghost use Rattle.code.specs.Code.{codeSizes};
 ghost use Rattle.code.specs.View.{nodeSetOf};
-ghost use Rattle.code.specs.Calls.{encoding, someOutside, given, decoding};
+ghost use Rattle.code.specs.Calls.{encoding, someOutside, givenSet, decoding};
 use code::CodeAnswer;
 use code::Limits;
 use code::NodeSet;
@@ -53,7 +53,7 @@ fn some_outside(n: usize, nodes: &[u8]) -> bool
 
 // The set of the nodes given.
 fn set_of(nodes: &[u8]) -> NodeSet
-    ensures { λ r. ⌜ nodeSetOf r ≡ given (now (nodes .entry)) ⌝ }
+    ensures { λ r. ⌜ nodeSetOf r ≡ givenSet (now (nodes .entry)) ⌝ }
 {
     let mut set = NodeSet::none();
     let mut i = 0;

@@ -5,10 +5,10 @@ ghost use Prim.Native.Nat.{ℕ, suc, _+_, _*_, _<_, _≤_};
 ghost use lib.ListN.{length, getD};
 ghost use Rattle.gf256.specs.Field.{IsPowers, IsLogarithms};
 ghost use Rattle.blocks.specs.Blocks.{table};
-ghost use Rattle.kernel.specs.Combine.{nth, Holds, Nodes};
+ghost use Rattle.kernel.specs.Combine.{nth, HasBlocks, Nodes};
 ghost use Rattle.code.specs.Decode;
 ghost use Rattle.code.specs.View.{nodeSetOf};
-ghost use Rattle.coding.specs.Weights.{Apart, Rising, Recovers, Shares, restored};
+ghost use Rattle.coding.specs.Weights.{Apart, Rising, Recovers, Shares, restoredByte};
 use crate::weights;
 use code::NodeSet;
 
@@ -66,8 +66,8 @@ fn fill_rows(rows: &mut [u8], m: usize, nodes: &[u8])
 
 // The blocks of the nodes 1 to m.
 fn recover_all(m: usize, b: usize, nodes: &[u8], blocks: &[u8], out: &mut [u8])
-    requires { ⌜ (m ≤ 256) × (b ≤ 4096) × Nodes (now nodes) × Rising (now nodes) × Holds b (now blocks) (now nodes) × (length (now out) ≡ m * b) ⌝ }
-    ensures { λ _. ⌜ now (out .exit) ≡ table m b (restored b (now (blocks .entry)) (now (nodes .entry))) ⌝ }
+    requires { ⌜ (m ≤ 256) × (b ≤ 4096) × Nodes (now nodes) × Rising (now nodes) × HasBlocks b (now blocks) (now nodes) × (length (now out) ≡ m * b) ⌝ }
+    ensures { λ _. ⌜ now (out .exit) ≡ table m b (restoredByte b (now (blocks .entry)) (now (nodes .entry))) ⌝ }
 {
     if nodes.len() == 0 {
         blocks::clear(out);

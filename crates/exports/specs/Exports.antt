@@ -5,7 +5,7 @@ use Prim.Native.Nat.{ℕ, _+_, _*_}
 use lib.Dec.{eqb}
 use lib.ListN.{length}
 use Rattle.blocks.specs.Blocks.{addTimes}
-use Rattle.code.specs.Calls.{Coded, numberOf}
+use Rattle.code.specs.Calls.{Coded, codeNumber}
 use Rattle.code.specs.declared.CodeAnswer.{CodeAnswer}
 use Rattle.code.specs.declared.CodeAnswer.the-variants.{Accepted, OutOfLimits, OutOfRange, TooFew, NoInverse}
 
@@ -19,7 +19,7 @@ sizeIn NoInverse = 0
 
 -- an answer as one number
 abbrev pub answerOf : CodeAnswer → ℕ
-answerOf a = numberOf a + 256 * sizeIn a
+answerOf a = codeNumber a + 256 * sizeIn a
 
 -- a call's answer, and the buffer that it writes, after it
 pub record Answered : Type 0 where

@@ -13,7 +13,7 @@ use Rattle.gf256.proofs.Laws.{zero-product}
 use Rattle.blocks.specs.Blocks.{block, table, byteAt}
 use Rattle.blocks.proofs.Parts.{block-end, block-fits, part-at, part-length}
 use Rattle.blocks.proofs.Tables.{table-cong}
-use Rattle.kernel.specs.Combine.{nth, mixed, Holds, Rows, Nodes}
+use Rattle.kernel.specs.Combine.{nth, mixed, HasBlocks, Rows, Nodes}
 use Rattle.kernel.specs.Working.{combined, Sources, startOf}
 use Rattle.gf256.proofs.Sum.{All, sum-ext}
 
@@ -34,7 +34,7 @@ sum-tail (suc n) k f z =
     rw (e, sum, z (suc (n + k)) (omega arith), sum-tail n k f z) (xor-zero-r (sum k f))
 
 module _ (b : ℕ) (t nodes starts : List ℕ) (is : Nodes nodes) (some : 1 ≤ length nodes) (at : (q : ℕ) → q < 12 → getD starts q 0 ≡ startOf nodes b q) where
-  pub mixed-sources : length starts ≡ 12 → Holds b t nodes → Sources b t starts
+  pub mixed-sources : length starts ≡ 12 → HasBlocks b t nodes → Sources b t starts
   mixed-sources twelve h = record { twelve = twelve; fits = λ q l. by q l (decLt q (length nodes)) }
     where
       by : (q : ℕ) → q < 12 → Dec (q < length nodes) → getD starts q 0 + b ≤ length t

@@ -22,7 +22,7 @@ pub record Nodes (nodes : List ℕ) : Type 0 where
   pub from : (l : ℕ) → l < length nodes → 1 ≤ getD nodes l 0
 
 -- t has the nodes' blocks of b bytes
-pub record Holds (b : ℕ) (t nodes : List ℕ) : Type 0 where
+pub record HasBlocks (b : ℕ) (t nodes : List ℕ) : Type 0 where
   pub fits : (q : ℕ) → q < length nodes → getD nodes q 0 * b ≤ length t
 
 -- m rows of twelve weights, of which those past the first k are 0

@@ -7,7 +7,7 @@ ghost use mathlib.Core.Path.{_≡_};
 ghost use Prim.Native.Nat.{ℕ, _+_, _*_, _≤_, _<_};
 ghost use lib.ListN.{length, getD};
 ghost use Rattle.blocks.specs.Blocks.{table, block};
-ghost use Rattle.kernel.specs.Combine.{mixed, Holds, Rows, Nodes};
+ghost use Rattle.kernel.specs.Combine.{mixed, HasBlocks, Rows, Nodes};
 ghost use Rattle.kernel.specs.Working.{combined, Sources, Zeroed, Filled, startOf};
 
 mod bits; // bits.rt: one block's part of a tile
@@ -81,7 +81,7 @@ fn starts_of(nodes: &[u8], b: usize) -> [usize; 12]
 // Each of the m blocks of out becomes the sum of the nodes' blocks in the table t, each times its weight. Weights past those of the nodes are 0.
 pub fn mix(out: &mut [u8], m: usize, b: usize, t: &[u8], nodes: &[u8], rows: &[u8])
     requires { ⌜ Nodes (now nodes) × (1 ≤ length (now nodes)) × (m ≤ 256) × (b ≤ 4096) × (length (now out) ≡ m * b) × (length (now rows) ≡ m * 12)
-        × Holds b (now t) (now nodes) × Rows m (length (now nodes)) (now rows) ⌝ }
+        × HasBlocks b (now t) (now nodes) × Rows m (length (now nodes)) (now rows) ⌝ }
     ensures { λ _. ⌜ now (out .exit) ≡ table m b (λ j. mixed b (now (t .entry)) (now (nodes .entry)) (block 12 j (now (rows .entry)))) ⌝ }
 {
     let starts = starts_of(nodes, b);

@@ -8,13 +8,13 @@ use Rattle.records.specs.declared.NodeStep.{NodeStep}
 use Rattle.records.specs.declared.Refusal.{Refusal}
 use Rattle.records.specs.declared.Refusal.the-variants.{WrongMode}
 use Rattle.records.specs.Node.{Node, isFree}
-use Rattle.records.specs.NodeSteps.{Meets, refusing, sweepAnswer}
+use Rattle.records.specs.NodeSteps.{MeetsAtNode, refusing, sweepAnswer}
 use Rattle.records.specs.View.{nodeOf}
 use Rattle.machine.specs.Stripe.{Outcome, Local, refused, guard}
 use Rattle.machine.specs.Writing.{needing}
 
 -- what an accepted step leaves of the node
-pub stepped : {answer : NodeAnswer} {after : Node} {before : NodeRecord} {r : NodeStep} → Meets answer after before r → r .answer ≡ Accepted
+pub stepped : {answer : NodeAnswer} {after : Node} {before : NodeRecord} {r : NodeStep} → MeetsAtNode answer after before r → r .answer ≡ Accepted
     → nodeOf (r .node) ≡ after
 stepped m q = rw q at (m .left)
 

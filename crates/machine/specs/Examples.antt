@@ -4,7 +4,7 @@ use mathlib.Core.List.{List, [], _∷_, _++_}
 use Prim.Native.Nat.{ℕ, zero, suc}
 use Rattle.code.specs.Code.{redundant}
 use Rattle.code.specs.Decode.{members, recoveredTable}
-use Rattle.code.specs.Calls.{given}
+use Rattle.code.specs.Calls.{givenSet}
 use Rattle.records.specs.declared.Sizes.{Sizes}
 use Rattle.records.specs.declared.Refusal.{Refusal}
 use Rattle.records.specs.declared.Refusal.the-variants.{OutOfLimits, OutOfRange, OutOfPhase, WrongMode, OldEpoch, BeforePrevious, Full, Exhausted}
@@ -107,7 +107,7 @@ d4 = 1 ∷ 245 ∷ []
 
 -- 5. "0x7A 0x7A at nodes 3, 4 decodes to 01 01."
 abbrev pub c5 : List ℕ
-c5 = recoveredTable 2 2 1 (given (3 ∷ 4 ∷ [])) (0 ∷ 0 ∷ 122 ∷ 122 ∷ [])
+c5 = recoveredTable 2 2 1 (givenSet (3 ∷ 4 ∷ [])) (0 ∷ 0 ∷ 122 ∷ 122 ∷ [])
 
 abbrev pub d5 : List ℕ
 d5 = 1 ∷ 1 ∷ []

@@ -23,7 +23,7 @@ use Rattle.stripe.specs.declared.seen.Seen.{Seen}
 use Rattle.stripe.specs.Seen.{Sees}
 use Rattle.calls.specs.Answers.{whole}
 use Rattle.rebuild.specs.Contracts.{Admitted}
-use Rattle.rebuild.specs.Tables.{tablesFit, tabledEntrance, Tables}
+use Rattle.rebuild.specs.Tables.{bothFit, tabledEntrance, Tables}
 use Rattle.rebuild.proofs.Limits.{tests, admitted, limits-seen, passed, failed}
 
 first-passed : (test : Bool) (rest : NodeAnswer) → cond test (Refused OutOfLimits) rest ≡ Accepted → test ≡ false
@@ -32,22 +32,22 @@ first-passed false rest e = refl
 
 -- a call with `rest` after the tests
 abbrev called : Sizes → ℕ → Whole → Outcome Whole → Outcome Whole
-called z c w rest = guard (outOfLimits z w || not (tablesFit z (w .blocks) (w .spare))) OutOfLimits w (guard (not (isClient z c)) OutOfRange w rest)
+called z c w rest = guard (outOfLimits z w || not (bothFit z (w .blocks) (w .spare))) OutOfLimits w (guard (not (isClient z c)) OutOfRange w rest)
 
 module _ (z : Sizes) (c : ℕ) (s : Seen) (y : ClientRecord) (blocks spare : List ℕ) {a : NodeAnswer} (e : a ≡ tabledEntrance z c s y blocks spare) where
   module _ (q : a ≡ Accepted) where
-    inside : (not (sizesWithin z && (s .within && clientWithin z (clientOf y))) || not (tablesFit z blocks spare)) ≡ false
+    inside : (not (sizesWithin z && (s .within && clientWithin z (clientOf y))) || not (bothFit z blocks spare)) ≡ false
     inside = first-passed _ _ (sym e ∙ q)
 
-    both : (not (sizesWithin z && (s .within && clientWithin z (clientOf y))) ≡ false) × (not (tablesFit z blocks spare) ≡ false)
-    both = or-none (not (sizesWithin z && (s .within && clientWithin z (clientOf y)))) (not (tablesFit z blocks spare)) inside
+    both : (not (sizesWithin z && (s .within && clientWithin z (clientOf y))) ≡ false) × (not (bothFit z blocks spare) ≡ false)
+    both = or-none (not (sizesWithin z && (s .within && clientWithin z (clientOf y)))) (not (bothFit z blocks spare)) inside
 
     pub tabled-admitted : Admitted z c s y
     tabled-admitted = admitted c {s = s} {y = y} (e ∙ rw (inside, both .0)) q
 
     pub tabled-tables : Tables z blocks spare
     tabled-tables =
-        let fit = not-false (tablesFit z blocks spare) (both .1) in
+        let fit = not-false (bothFit z blocks spare) (both .1) in
         record {
           full = eqb-true (length blocks) (z .n * z .b) (and-left (blocksFit z blocks) (blocksFit z spare) fit);
           room = eqb-true (length spare) (z .n * z .b) (and-right (blocksFit z blocks) (blocksFit z spare) fit);
@@ -55,19 +55,19 @@ module _ (z : Sizes) (c : ℕ) (s : Seen) (y : ClientRecord) (blocks spare : Lis
 
   module _ {nodes : List Node} (sees : sizesWithin z ≡ true → Sees z c nodes s) where
     seen : tabledEntrance z c s y blocks spare
-        ≡ tests (outOfLimits z (whole nodes (clientOf y) blocks spare) || not (tablesFit z blocks spare)) (not (isClient z c))
-    seen = ap (λ t. tests (t || not (tablesFit z blocks spare)) (not (isClient z c))) (limits-seen sees y blocks spare)
+        ≡ tests (outOfLimits z (whole nodes (clientOf y) blocks spare) || not (bothFit z blocks spare)) (not (isClient z c))
+    seen = ap (λ t. tests (t || not (bothFit z blocks spare)) (not (isClient z c))) (limits-seen sees y blocks spare)
 
     pub tabled-failed : (rest : Outcome Whole) {why : Refusal} → a ≡ Refused why
         → refused why (whole nodes (clientOf y) blocks spare) ≡ called z c (whole nodes (clientOf y) blocks spare) rest
     tabled-failed rest {why} q =
         let w = whole nodes (clientOf y) blocks spare in
-        sym (failed w rest why (outOfLimits z w || not (tablesFit z blocks spare)) (not (isClient z c)) (sym seen ∙ sym e ∙ q))
+        sym (failed w rest why (outOfLimits z w || not (bothFit z blocks spare)) (not (isClient z c)) (sym seen ∙ sym e ∙ q))
 
     pub tabled-passed : (rest : Outcome Whole) → a ≡ Accepted → rest ≡ called z c (whole nodes (clientOf y) blocks spare) rest
     tabled-passed rest q =
         let w = whole nodes (clientOf y) blocks spare in
-        sym (passed w rest (outOfLimits z w || not (tablesFit z blocks spare)) (not (isClient z c)) (sym seen ∙ sym e ∙ q))
+        sym (passed w rest (outOfLimits z w || not (bothFit z blocks spare)) (not (isClient z c)) (sym seen ∙ sym e ∙ q))
 
 -- past its tests a call is what is left of it
 pub tabled-past : (z : Sizes) (c : ℕ) (s : Seen) (y : ClientRecord) (blocks spare : List ℕ) {nodes : List Node} → (sizesWithin z ≡ true → Sees z c nodes s)

@@ -16,13 +16,13 @@ use Rattle.records.specs.View.{clientOf}
 use Rattle.stripe.specs.declared.seen.Seen.{Seen}
 
 -- "buffer length": both tables have n blocks
-abbrev pub tablesFit : Sizes → List ℕ → List ℕ → Bool
-tablesFit z blocks spare = blocksFit z blocks && blocksFit z spare
+abbrev pub bothFit : Sizes → List ℕ → List ℕ → Bool
+bothFit z blocks spare = blocksFit z blocks && blocksFit z spare
 
 -- the tests: 1, then 2
 abbrev pub tabledEntrance : Sizes → ℕ → Seen → ClientRecord → List ℕ → List ℕ → NodeAnswer
 tabledEntrance z c seen client blocks spare =
-    cond (not (sizesWithin z && (seen .within && clientWithin z (clientOf client))) || not (tablesFit z blocks spare)) (Refused OutOfLimits)
+    cond (not (sizesWithin z && (seen .within && clientWithin z (clientOf client))) || not (bothFit z blocks spare)) (Refused OutOfLimits)
     (cond (not (isClient z c)) (Refused OutOfRange) Accepted)
 
 -- what is known of the tables past them

@@ -84,7 +84,7 @@ pub(crate) fn go_on(
     step: NodeStep,
 ) -> Stepped
     requires { ⌜ z .n ≤ nodeLimit ⌝ }
-    ensures { λ r. ⌜ ((after : Node → Node) → NodeSteps.Meets (heldAnswer c (nodeOf node)) (after (nodeOf node)) node step →
+    ensures { λ r. ⌜ ((after : Node → Node) → NodeSteps.MeetsAtNode (heldAnswer c (nodeOf node)) (after (nodeOf node)) node step →
         Steps (atOwn after) z c seen node client r) ⌝ }
 {
     let answer = step.answer;

@@ -81,10 +81,10 @@ checkAnswer w x =
     cond (not (isRecentIn (w .id) (x .entries))) Init (cond (previousRecent (w .previous) (x .entries)) NoChange Gc)
 
 -- what a call leaves of the record `before`: accepted, one that is seen as `after`; a refusal hands back the very record
-abbrev pub Left : NodeAnswer → Node → NodeRecord → NodeRecord → Type 0
-Left Accepted after before r = nodeOf r ≡ after
-Left (Refused why) after before r = r ≡ before
+abbrev pub LeftAtNode : NodeAnswer → Node → NodeRecord → NodeRecord → Type 0
+LeftAtNode Accepted after before r = nodeOf r ≡ after
+LeftAtNode (Refused why) after before r = r ≡ before
 
-pub record Meets (answer : NodeAnswer) (after : Node) (before : NodeRecord) (r : NodeStep) : Type 0 where
+pub record MeetsAtNode (answer : NodeAnswer) (after : Node) (before : NodeRecord) (r : NodeStep) : Type 0 where
   pub answered : r .answer ≡ answer
-  pub left : Left (r .answer) after before (r .node)
+  pub left : LeftAtNode (r .answer) after before (r .node)

@@ -6,7 +6,7 @@ ghost use Rattle.code.specs.View.{nodeSetOf};
 ghost use Rattle.entries.specs.Entries.{entryLimit, finishedLimit, discard, markOld};
 ghost use Rattle.entries.specs.View.{idsOf};
 ghost use Rattle.records.specs.Node.{epochLimit, freshNode, failedNode, isNorm, isRecons, isInit, isUnl, isExp, isL0, isL1, isHolder, isFree, takesAdd, heldBy, heldAtL1, withEntries, withLmode, entered, lockedBy, weakenedBy, unlocked, expiredFor, givenBack, written, settled, isDue, holderWithin, nodeWithin};
-ghost use Rattle.records.specs.NodeSteps.{Meets, emptyNode, enterAnswer, readAnswer, swapAnswer, afterPrevious, addAnswer, sweepAnswer, lockAnswer, heldAnswer, weakenAnswer, checkAnswer};
+ghost use Rattle.records.specs.NodeSteps.{MeetsAtNode, emptyNode, enterAnswer, readAnswer, swapAnswer, afterPrevious, addAnswer, sweepAnswer, lockAnswer, heldAnswer, weakenAnswer, checkAnswer};
 ghost use Rattle.records.specs.View.{nodeOf};
 use crate::CheckAnswer;
 use crate::CheckStep;
@@ -250,7 +250,7 @@ impl NodeRecord {
 
     // The id entered as recent, if there is room.
     fn enter(self, id: WriteId) -> NodeStep
-        ensures { λ r. ⌜ Meets (enterAnswer (nodeOf self)) (entered id (nodeOf self)) self r ⌝ }
+        ensures { λ r. ⌜ MeetsAtNode (enterAnswer (nodeOf self)) (entered id (nodeOf self)) self r ⌝ }
     {
         if Entries::LIMIT <= self.entries.count {
             return self.refused(Refusal::Full);
@@ -261,7 +261,7 @@ impl NodeRecord {
     }
 
     pub fn read(self) -> NodeStep
-        ensures { λ r. ⌜ Meets (readAnswer (nodeOf self)) (nodeOf self) self r ⌝ }
+        ensures { λ r. ⌜ MeetsAtNode (readAnswer (nodeOf self)) (nodeOf self) self r ⌝ }
     {
         if self.is_free() {
             self.accepted()
@@ -271,7 +271,7 @@ impl NodeRecord {
     }
 
     pub fn swap(self, id: WriteId) -> NodeStep
-        ensures { λ r. ⌜ Meets (swapAnswer (nodeOf self)) (entered id (nodeOf self)) self r ⌝ }
+        ensures { λ r. ⌜ MeetsAtNode (swapAnswer (nodeOf self)) (entered id (nodeOf self)) self r ⌝ }
     {
         if self.is_free() {
             self.enter(id)
@@ -283,7 +283,7 @@ impl NodeRecord {
     // The id entered, if the previous one is listed.
     fn enter_after(self, previous: Previous, id: WriteId) -> NodeStep
         requires { ⌜ self .entries .count ≤ entryLimit ⌝ }
-        ensures { λ r. ⌜ Meets (afterPrevious previous (nodeOf self) (enterAnswer (nodeOf self))) (entered id (nodeOf self)) self r ⌝ }
+        ensures { λ r. ⌜ MeetsAtNode (afterPrevious previous (nodeOf self) (enterAnswer (nodeOf self))) (entered id (nodeOf self)) self r ⌝ }
     {
         match previous {
             Previous::Nothing => self.enter(id),
@@ -299,7 +299,7 @@ impl NodeRecord {
 
     pub fn add(self, write: Write) -> NodeStep
         requires { ⌜ self .entries .count ≤ entryLimit ⌝ }
-        ensures { λ r. ⌜ Meets (addAnswer write (nodeOf self)) (entered (write .id) (nodeOf self)) self r ⌝ }
+        ensures { λ r. ⌜ MeetsAtNode (addAnswer write (nodeOf self)) (entered (write .id) (nodeOf self)) self r ⌝ }
     {
         if !self.takes_add() {
             return self.wrong_mode();
@@ -343,7 +343,7 @@ impl NodeRecord {
 
     pub fn discard(self, moved: Ids) -> NodeStep
         requires { ⌜ (self .entries .count ≤ entryLimit) × (moved .count ≤ finishedLimit) ⌝ }
-        ensures { λ r. ⌜ Meets (sweepAnswer (nodeOf self)) (withEntries (nodeOf self) (discard (idsOf moved) (nodeOf self .entries))) self r ⌝ }
+        ensures { λ r. ⌜ MeetsAtNode (sweepAnswer (nodeOf self)) (withEntries (nodeOf self) (discard (idsOf moved) (nodeOf self .entries))) self r ⌝ }
     {
         if !self.is_free() {
             return self.wrong_mode();
@@ -355,7 +355,7 @@ impl NodeRecord {
 
     pub fn mark(self, finished: Ids) -> NodeStep
         requires { ⌜ (self .entries .count ≤ entryLimit) × (finished .count ≤ finishedLimit) ⌝ }
-        ensures { λ r. ⌜ Meets (sweepAnswer (nodeOf self)) (withEntries (nodeOf self) (markOld (idsOf finished) (nodeOf self .entries))) self r ⌝ }
+        ensures { λ r. ⌜ MeetsAtNode (sweepAnswer (nodeOf self)) (withEntries (nodeOf self) (markOld (idsOf finished) (nodeOf self .entries))) self r ⌝ }
     {
         if !self.is_free() {
             return self.wrong_mode();
@@ -385,7 +385,7 @@ impl NodeRecord {
     }
 
     pub fn lock(self, c: u8) -> NodeStep
-        ensures { λ r. ⌜ Meets (lockAnswer (nodeOf self)) (lockedBy c (nodeOf self)) self r ⌝ }
+        ensures { λ r. ⌜ MeetsAtNode (lockAnswer (nodeOf self)) (lockedBy c (nodeOf self)) self r ⌝ }
     {
         let lmode = self.lmode;
         if lmode.is_locked() {
@@ -395,7 +395,7 @@ impl NodeRecord {
     }
 
     pub fn tighten(self, c: u8) -> NodeStep
-        ensures { λ r. ⌜ Meets (heldAnswer c (nodeOf self)) (lockedBy c (nodeOf self)) self r ⌝ }
+        ensures { λ r. ⌜ MeetsAtNode (heldAnswer c (nodeOf self)) (lockedBy c (nodeOf self)) self r ⌝ }
     {
         if !self.held_by(c) {
             return self.refused(Refusal::NotHeld);
@@ -404,7 +404,7 @@ impl NodeRecord {
     }
 
     pub fn weaken(self, c: u8) -> NodeStep
-        ensures { λ r. ⌜ Meets (weakenAnswer c (nodeOf self)) (weakenedBy c (nodeOf self)) self r ⌝ }
+        ensures { λ r. ⌜ MeetsAtNode (weakenAnswer c (nodeOf self)) (weakenedBy c (nodeOf self)) self r ⌝ }
     {
         let opmode = self.opmode;
         if opmode.is_recons() {
@@ -417,7 +417,7 @@ impl NodeRecord {
     }
 
     pub fn unlock(self, c: u8) -> NodeStep
-        ensures { λ r. ⌜ Meets (heldAnswer c (nodeOf self)) (unlocked (nodeOf self)) self r ⌝ }
+        ensures { λ r. ⌜ MeetsAtNode (heldAnswer c (nodeOf self)) (unlocked (nodeOf self)) self r ⌝ }
     {
         if !self.held_by(c) {
             return self.refused(Refusal::NotHeld);
@@ -427,20 +427,20 @@ impl NodeRecord {
 
     // All that c held becomes EXP.
     pub fn expire(self, c: u8) -> NodeStep
-        ensures { λ r. ⌜ Meets NodeAnswer.Accepted (expiredFor c (nodeOf self)) self r ⌝ }
+        ensures { λ r. ⌜ MeetsAtNode NodeAnswer.Accepted (expiredFor c (nodeOf self)) self r ⌝ }
     {
         self.expired_for(c).accepted()
     }
 
     // The old lmode, if c still holds the node: what a lock that is refused leaves of those before it.
     pub fn give_back(self, c: u8, old: Lmode) -> NodeStep
-        ensures { λ r. ⌜ Meets NodeAnswer.Accepted (givenBack c old (nodeOf self)) self r ⌝ }
+        ensures { λ r. ⌜ MeetsAtNode NodeAnswer.Accepted (givenBack c old (nodeOf self)) self r ⌝ }
     {
         self.given_back(c, old).accepted()
     }
 
     pub fn write(self, c: u8, epoch: Epoch, set: NodeSet) -> NodeStep
-        ensures { λ r. ⌜ Meets (heldAnswer c (nodeOf self)) (written epoch (nodeSetOf set) (nodeOf self)) self r ⌝ }
+        ensures { λ r. ⌜ MeetsAtNode (heldAnswer c (nodeOf self)) (written epoch (nodeSetOf set) (nodeOf self)) self r ⌝ }
     {
         if !self.held_by(c) {
             return self.refused(Refusal::NotHeld);
@@ -450,7 +450,7 @@ impl NodeRecord {
 
     pub fn settle(self, c: u8, epoch: Epoch) -> NodeStep
         requires { ⌜ epoch .0 < epochLimit ⌝ }
-        ensures { λ r. ⌜ Meets (heldAnswer c (nodeOf self)) (settled epoch (nodeOf self)) self r ⌝ }
+        ensures { λ r. ⌜ MeetsAtNode (heldAnswer c (nodeOf self)) (settled epoch (nodeOf self)) self r ⌝ }
     {
         if !self.held_by(c) {
             return self.refused(Refusal::NotHeld);
@@ -461,7 +461,7 @@ impl NodeRecord {
     // ---- failure
 
     pub fn fail(self) -> NodeStep
-        ensures { λ r. ⌜ Meets NodeAnswer.Accepted failedNode self r ⌝ }
+        ensures { λ r. ⌜ MeetsAtNode NodeAnswer.Accepted failedNode self r ⌝ }
     {
         NodeRecord::failed().accepted()
     }

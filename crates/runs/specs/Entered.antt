@@ -14,7 +14,7 @@ use Rattle.calls.specs.Calls.{stepOf}
 use Rattle.shelf.specs.declared.PickRequest.{PickRequest}
 use Rattle.shelf.specs.declared.ReadRequest.{ReadRequest}
 use Rattle.shelf.specs.declared.Request.{Request}
-use Rattle.shelf.specs.Shelf.{Steps, Picks, Reads, stripeIn}
+use Rattle.shelf.specs.Shelf.{StepsLent, PicksLent, ReadsLent, stripeIn}
 use Rattle.runs.specs.Runs.{EveryRun}
 
 -- "the n node records lent as one table", the m client records as another, and the three tables of bytes
@@ -31,15 +31,15 @@ tablesOf z t = stripeIn (t .nodes) (t .clients) (t .blocks) (t .spare) (t .diffe
 -- one call did what its entry point ensures. What it is not lent for writing stays: for a read all tables, for a pick the blocks and the differences
 pub data Enters (t : Tables) : Sizes → Calls.Call → Machine.Answer → Tables → Type 0 where
   stepped : (q : Request) (value : List ℕ) (answer : Answer) (t′ : Tables)
-      → Steps (t .nodes) (t .clients) (t .blocks) (t .spare) (t .differences) value q answer
+      → StepsLent (t .nodes) (t .clients) (t .blocks) (t .spare) (t .differences) value q answer
       (t′ .nodes) (t′ .clients) (t′ .blocks) (t′ .spare) (t′ .differences)
       → Enters t (q .z) (stepOf (q .call) value) (answerOf answer []) t′
   picked : (q : PickRequest) (answer : Answer) (nodes : List NodeRecord) (clients : List ClientRecord) (spare : List ℕ)
-      → Picks (t .nodes) (t .clients) (t .spare) (t .blocks) q answer nodes clients spare
+      → PicksLent (t .nodes) (t .clients) (t .spare) (t .blocks) q answer nodes clients spare
       → Enters t (q .z) (Calls.Pick (q .c)) (answerOf answer [])
       (record { nodes = nodes; clients = clients; blocks = t .blocks; spare = spare; differences = t .differences })
   shown : (q : ReadRequest) (out : List ℕ) (answer : Answer) (out′ : List ℕ)
-      → Reads (t .nodes) out (t .blocks) q answer out′
+      → ReadsLent (t .nodes) out (t .blocks) q answer out′
       → Enters t (q .z) (Calls.Read (q .i)) (answerOf answer out′) t
 
 -- a call is lent the tables that are kept; or it is lent others, "length outside the limits", a part of them say, which it leaves as they are

@@ -12,7 +12,7 @@ use lib.Seq.{take-nil, take-append-le, take-suc-set}
 use borrow.Author.Tests.{eqb-true, leb-true}
 use Rattle.basics.proofs.Tests.{and-both}
 use Rattle.machine.specs.Calls.{Call}
-use Rattle.script.specs.Lines.{isDigit, digitsFrom, numeral, both, bytesOf, withOne, withTwo, withValue, withThree, callOf}
+use Rattle.script.specs.Lines.{isDigit, digitsFrom, numeral, both, bytesOf, withOne, withTwo, withValue, withThree, callBy}
 use Rattle.script.specs.Reading.{clipNumber, clipValue, clip, clipped, kept, Stored, clippedFrom, numberFrom, valueFrom, last, afterFirst, afterSecond, withTarget}
 use Rattle.script.specs.declared.reader.Number.{Number}
 use Rattle.script.specs.declared.reader.Number.the-variants.{Empty, Digits, Bad}
@@ -139,8 +139,8 @@ module _ (room letter : ℕ) where
   swap-only false e x = refl
 
   -- the fields of a call, clipped one by one
-  pub clip-fields : (p : List ℕ) (ps : List (List ℕ)) → clipped room (callOf letter (p ∷ ps)) ≡ afterFirst room letter (numberFrom Empty p) ps
-  unfolding callOf afterFirst afterSecond
+  pub clip-fields : (p : List ℕ) (ps : List (List ℕ)) → clipped room (callBy letter (p ∷ ps)) ≡ afterFirst room letter (numberFrom Empty p) ps
+  unfolding callBy afterFirst afterSecond
   clip-fields p [] = clip-one (numeral p) ∙ ap (withOne letter) (clip-numeral p)
   clip-fields p (b ∷ []) = rw (map-cond, clip-value (numeral p) (bytesOf b), clip-two (numeral p) (numeral b), clip-numeral p, clip-numeral b)
   clip-fields p (b ∷ v ∷ []) =

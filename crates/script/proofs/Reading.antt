@@ -7,7 +7,7 @@ use lib.ListN.{length}
 use borrow.Author.Tests.{ne-eqb}
 use Rattle.basics.proofs.Tests.{cond-ind}
 use Rattle.script.specs.Lines.{onto, parts, fields, call}
-use Rattle.script.specs.Reading.{clipped, callIn, goesOn, Holds, Takes, Follows, Ends}
+use Rattle.script.specs.Reading.{clipped, callIn, goesOn, HasRead, Takes, Follows, Ends}
 use Rattle.script.specs.declared.reader.Line.{Line}
 use Rattle.script.specs.declared.reader.LineReader.{LineReader}
 
@@ -33,11 +33,11 @@ module _ {reader next : LineReader} {value after : List ℕ} {byte : ℕ} (same 
       record { room = same; tells = λ rest. rw (ne-eqb byte 32 e) (fields-cases (λ ps. goesOn next after ps ≡ goesOn reader value (onto byte ps)) f rest) }
 
 pub takes : {reader next : LineReader} {value after : List ℕ} {byte : ℕ} → Follows reader value byte next after → Takes reader value byte next after
-unfolding Holds
+unfolding HasRead
 takes {byte = byte} f =
     record { room = f .room; holds = λ l h rest. f .tells rest ∙ h (byte ∷ rest) ∙ rw (f .room, append-assoc l (byte ∷ []) rest) }
 
 -- at the line's end nothing follows
 pub ends : {reader : LineReader} {line : Line} → ((value : List ℕ) → callIn line value ≡ goesOn reader value ([] ∷ [])) → Ends reader line
-unfolding Holds parts
+unfolding HasRead parts
 ends told = record { tells = λ l value h. told value ∙ h [] ∙ rw append-nil }

@@ -99,19 +99,19 @@ withThree (some c) none value = none
 withThree (some c) (some i) none = none
 withThree (some c) (some i) (some value) = some (Swap c i value)
 
-unfoldable pub callOf : ℕ → List (List ℕ) → Option Call
-callOf letter [] = none
-callOf letter (a ∷ []) = withOne letter (numeral a)
-callOf letter (a ∷ b ∷ []) = cond (eqb letter 78) (withValue (numeral a) (bytesOf b)) (withTwo letter (numeral a) (numeral b))
-callOf letter (a ∷ b ∷ v ∷ []) = cond (eqb letter 83) (withThree (numeral a) (numeral b) (bytesOf v)) none
-callOf letter (a ∷ b ∷ v ∷ w ∷ more) = none
+unfoldable pub callBy : ℕ → List (List ℕ) → Option Call
+callBy letter [] = none
+callBy letter (a ∷ []) = withOne letter (numeral a)
+callBy letter (a ∷ b ∷ []) = cond (eqb letter 78) (withValue (numeral a) (bytesOf b)) (withTwo letter (numeral a) (numeral b))
+callBy letter (a ∷ b ∷ v ∷ []) = cond (eqb letter 83) (withThree (numeral a) (numeral b) (bytesOf v)) none
+callBy letter (a ∷ b ∷ v ∷ w ∷ more) = none
 
 -- the call that a line of striperun stands for; none if it is unreadable. A value may have any number of bytes: the call itself refuses a wrong one
 -- with 1
 unfoldable pub lineOf : List (List ℕ) → Option Call
 lineOf [] = none
 lineOf ([] ∷ more) = none
-lineOf ((letter ∷ []) ∷ more) = callOf letter more
+lineOf ((letter ∷ []) ∷ more) = callBy letter more
 lineOf ((letter ∷ x ∷ xs) ∷ more) = none
 
 abbrev pub call : List ℕ → Option Call

@@ -110,13 +110,13 @@ goesOn (Readers.Value target hex count) value [] = none
 goesOn (Readers.Value target hex count) value (p ∷ ps) = last ps (withTarget target (valueFrom (length value) (kept count value) (bytesFrom hex p)))
 
 -- after the bytes l: however the line goes on, the reader and the buffer tell its clipped call
-unfoldable pub Holds : List ℕ → LineReader → List ℕ → Type 0
-Holds l reader value = (rest : List ℕ) → goesOn reader value (fields rest) ≡ clipped (length value) (call (l ++ rest))
+unfoldable pub HasRead : List ℕ → LineReader → List ℕ → Type 0
+HasRead l reader value = (rest : List ℕ) → goesOn reader value (fields rest) ≡ clipped (length value) (call (l ++ rest))
 
 -- the reader and the buffer after one byte more
 pub record Takes (reader : LineReader) (value : List ℕ) (byte : ℕ) (next : LineReader) (after : List ℕ) : Type 0 where
   pub room : length after ≡ length value
-  pub holds : (l : List ℕ) → Holds l reader value → Holds (l ++ byte ∷ []) next after
+  pub holds : (l : List ℕ) → HasRead l reader value → HasRead (l ++ byte ∷ []) next after
 
 -- the same, said of what may follow
 pub record Follows (reader : LineReader) (value : List ℕ) (byte : ℕ) (next : LineReader) (after : List ℕ) : Type 0 where
@@ -125,7 +125,7 @@ pub record Follows (reader : LineReader) (value : List ℕ) (byte : ℕ) (next :
 
 -- the line's end
 pub record Ends (reader : LineReader) (line : Line) : Type 0 where
-  pub tells : (l value : List ℕ) → Holds l reader value → callIn line value ≡ clipped (length value) (call l)
+  pub tells : (l value : List ℕ) → HasRead l reader value → callIn line value ≡ clipped (length value) (call l)
 
 -- r is the hexadecimal digit x, or 16 if x is none; the byte of two of them, or 256
 abbrev pub HexDigit : ℕ → ℕ → Type 0

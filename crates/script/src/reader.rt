@@ -7,7 +7,7 @@ ghost use Prim.Native.Nat.{ℕ, _+_, _-_, _*_};
 ghost use Rattle.machine.specs.Calls.{At, By};
 ghost use Rattle.calls.specs.Calls.{callOf};
 ghost use Rattle.script.specs.Lines.{isDigit, isShelfLine, shelfLine, withOne, withTwo};
-ghost use Rattle.script.specs.Reading.{Holds, Takes, Follows, Ends, callIn, kept, withTarget, Stored, HexByte, HexDigit, clipNumber, numberFrom};
+ghost use Rattle.script.specs.Reading.{HasRead, Takes, Follows, Ends, callIn, kept, withTarget, Stored, HexByte, HexDigit, clipNumber, numberFrom};
 use calls::Call;
 use calls::StepCall;
 use records::ClientCall;
@@ -88,7 +88,7 @@ fn is_shelf_line(call: Call) -> bool
 
 impl LineReader {
     pub fn new() -> LineReader
-        ensures { λ r. ⌜ ((value : List ℕ) → Holds [] r value) ⌝ }
+        ensures { λ r. ⌜ ((value : List ℕ) → HasRead [] r value) ⌝ }
     {
         LineReader::Start
     }

@@ -40,7 +40,7 @@ use Rattle.shelf.specs.declared.PickRequest.{PickRequest}
 use Rattle.shelf.specs.declared.Returned.{Returned}
 use Rattle.shelf.specs.declared.TakenClient.{TakenClient}
 use Rattle.shelf.specs.Picks.{AfterPick, AllTook, PicksAll, allBegun, allEnd, allSeen}
-use Rattle.shelf.specs.Shelf.{entered, stripeIn}
+use Rattle.shelf.specs.Shelf.{onTables, stripeIn}
 use Rattle.shelf.specs.Table.{ClientTaken, clientsIn, nodesIn}
 use Rattle.shelf.proofs.AllTaken.{the-row}
 use Rattle.shelf.proofs.Cases.{false-true}
@@ -97,7 +97,7 @@ fits q t y = eqb (t .len) (q .z .n) && (eqb (y .len) (q .z .m) && leb (q .z .n) 
 module _ (q : PickRequest) (t : AllTaken) (y : TakenClient) (s b : List ℕ) where
   -- tables of other lengths, and sizes beyond the array, are answered 1
   out : (nodes : List NodeRecord) (clients : List ClientRecord) (d : List ℕ) (l : Looked) → AllTook nodes l t → ClientTaken clients (q .c) y → fits q t y ≡ false
-      → refused OutOfLimits (stripeIn nodes clients b s d) ≡ entered (q .z) (Pick (q .c)) (stripeIn nodes clients b s d)
+      → refused OutOfLimits (stripeIn nodes clients b s d) ≡ onTables (q .z) (Pick (q .c)) (stripeIn nodes clients b s d)
   unfolding step guard Rebuild.pick
   out nodes clients d l took taken misfit =
       by (eqb (length (nodesIn nodes)) (q .z .n)) (eqb (length (clientsIn clients)) (q .z .m)) (sizesWithin (q .z))

@@ -15,7 +15,7 @@ use Rattle.shelf.specs.declared.ReadRequest.{ReadRequest}
 use Rattle.shelf.specs.declared.Request.{Request}
 use Rattle.shelf.specs.declared.Sought.{Sought}
 use Rattle.shelf.specs.declared.TakenClient.{TakenClient}
-use Rattle.shelf.specs.Shelf.{Picks, PicksOnly, Reads, Steps}
+use Rattle.shelf.specs.Shelf.{PicksLent, PicksOnly, ReadsLent, StepsLent}
 use Rattle.shelf.specs.Picks.{AllTook, PickedAll, PicksAll}
 use Rattle.shelf.specs.Step.{ReadsFound, StepsFound, soughtFor}
 use Rattle.shelf.specs.Table.{ClientTaken, NodeFound, NodesSeen}
@@ -35,7 +35,7 @@ abbrev pub Asked : TakenClient → Request → Sought → Type 0
 Asked t q s = s ≡ soughtFor (t .client) q
 
 pub entered-step : Implied seen-nodes clients found.the-row found-rec NodeFound node-back others-back clients-back request.the-row answer.the-row returned.the-row
-    request-rec answer-rec returned-parts CalledBy Asked StepsFound Steps
+    request-rec answer-rec returned-parts CalledBy Asked StepsFound StepsLent
 entered-step ns ms ns′ cs cs′ b s d v b′ s′ d′ q vc vt vp vw vx vr c t p w x r lens back others put =
     let m = r .1 .1 .meets ns cs (w .0) (subst (λ (k : Sought). NodesSeen ns k (w .0)) (p .1 .1) (w .1 .1)) (x .1 .1) (subst (λ (k : ℕ). ClientTaken cs k (t .0)) (c .1 .1) (t .1 .1)) in
     let len = r .1 .1 .len ∙ x .1 .1 .len ∙ sym lens in
@@ -53,7 +53,7 @@ entered-step ns ms ns′ cs cs′ b s d v b′ s′ d′ q vc vt vp vw vx vr c t
 abbrev pub ReadAt : ReadRequest → Looked → Type 0
 ReadAt q l = l .sought .j ≡ q .i
 
-pub entered-read : read-entry.Implied nodes read-request.the-row answer.the-row read-request-rec answer-rec ReadAt ReadsFound Reads
+pub entered-read : read-entry.Implied nodes read-request.the-row answer.the-row read-request-rec answer-rec ReadAt ReadsFound ReadsLent
 entered-read ns out b out′ q vp vx vr p x r = r .1 .1 ns (p .0) (p .1 .1) (x .1 .1)
 
 abbrev pub PickedBy : PickRequest → ℕ → Type 0
@@ -75,7 +75,7 @@ entered-pick ns ms ns′ cs cs′ b s d v b′ s′ d′ q vc vt vp vw vx vr c t
     same : ms ≡ ns
     same = back ∙ set-past ns (r .0 .back .j) (r .0 .back .node) none
 
-    picks : Picks ns cs s b q (r .0 .answer) ns′ cs′ s′
+    picks : PicksLent ns cs s b q (r .0 .answer) ns′ cs′ s′
     picks e =
         let m = all-is .meets ns cs e (w .0) (x .1 .1) (subst (λ (k : ℕ). ClientTaken cs k (t .0)) (c .1 .1) (t .1 .1)) in
         record {

@@ -21,7 +21,7 @@ use Rattle.shelf.specs.declared.Looked.{Looked}
 use Rattle.shelf.specs.declared.PickRequest.{PickRequest}
 use Rattle.shelf.specs.declared.Returned.{Returned}
 use Rattle.shelf.specs.declared.TakenClient.{TakenClient}
-use Rattle.shelf.specs.Shelf.{entered, stripeIn}
+use Rattle.shelf.specs.Shelf.{onTables, stripeIn}
 use Rattle.shelf.specs.Table.{ClientTaken, clientsIn, nodesIn}
 
 abbrev pub allBegun : Looked → ℕ → AllTaken → Type 0
@@ -49,7 +49,7 @@ pub record PicksAll (t : AllTaken) (y : TakenClient) (spare blocks : List ℕ) (
   pub len : r .others .len ≡ t .len
   pub meets : (nodes : List NodeRecord) (clients : List ClientRecord) (differences : List ℕ) (l : Looked)
       → AllTook nodes l t → ClientTaken clients (q .c) y
-      → Meets (entered (q .z) (Pick (q .c)) (stripeIn nodes clients blocks spare differences)) (r .answer) []
+      → Meets (onTables (q .z) (Pick (q .c)) (stripeIn nodes clients blocks spare differences)) (r .answer) []
       (stripeWith (applied (r .others .change) (nodesIn nodes)) (setAt (clientsIn clients) (r .client .c) (clientOf (r .client .client)))
       blocks spare′ differences)
       ((r .others .change ≡ keep) × (setAt clients (r .client .c) (r .client .client) ≡ clients))

@@ -27,14 +27,14 @@ abbrev pub stripeIn : List NodeRecord → List ClientRecord → List ℕ → Lis
 stripeIn nodes clients blocks spare differences = stripeWith (nodesIn nodes) (clientsIn clients) blocks spare differences
 
 -- "1: .. buffer length outside the limits": the tables of n node records and of m client records are such buffers
-abbrev pub entered : Sizes → Call → Stripe → Outcome Stripe
-entered z call s = guard (not (eqb (length (s .nodes)) (z .n) && eqb (length (s .clients)) (z .m))) OutOfLimits s (step z call s)
+abbrev pub onTables : Sizes → Call → Stripe → Outcome Stripe
+onTables z call s = guard (not (eqb (length (s .nodes)) (z .n) && eqb (length (s .clients)) (z .m))) OutOfLimits s (step z call s)
 
 -- where a refusal leaves all unchanged, it hands back the very tables
-abbrev pub Steps : List NodeRecord → List ClientRecord → List ℕ → List ℕ → List ℕ → List ℕ → Request → Answer
+abbrev pub StepsLent : List NodeRecord → List ClientRecord → List ℕ → List ℕ → List ℕ → List ℕ → Request → Answer
     → List NodeRecord → List ClientRecord → List ℕ → List ℕ → List ℕ → Type 0
-Steps nodes clients blocks spare differences value q answer nodes′ clients′ blocks′ spare′ differences′ =
-    Meets (entered (q .z) (stepOf (q .call) value) (stripeIn nodes clients blocks spare differences))
+StepsLent nodes clients blocks spare differences value q answer nodes′ clients′ blocks′ spare′ differences′ =
+    Meets (onTables (q .z) (stepOf (q .call) value) (stripeIn nodes clients blocks spare differences))
     answer [] (stripeIn nodes′ clients′ blocks′ spare′ differences′)
     ((nodes′ ≡ nodes) × ((clients′ ≡ clients) × ((blocks′ ≡ blocks) × ((spare′ ≡ spare) × (differences′ ≡ differences)))))
 
@@ -42,22 +42,22 @@ Steps nodes clients blocks spare differences value q answer nodes′ clients′ 
 abbrev pub reading : Sizes → ℕ → List ℕ → Stripe → Outcome Stripe
 reading z i out s = guard (not (eqb (length (s .nodes)) (z .n) && eqb (length out) (z .b))) OutOfLimits s (step z (Read i) s)
 
-abbrev pub Reads : List NodeRecord → List ℕ → List ℕ → ReadRequest → Answer → List ℕ → Type 0
-Reads nodes out blocks q answer out′ =
+abbrev pub ReadsLent : List NodeRecord → List ℕ → List ℕ → ReadRequest → Answer → List ℕ → Type 0
+ReadsLent nodes out blocks q answer out′ =
     (clients : List Client) (spare differences : List ℕ)
     → Meets (reading (q .z) (q .i) out (stripeWith (nodesIn nodes) clients blocks spare differences))
     answer out′ (stripeWith (nodesIn nodes) clients blocks spare differences) (out′ ≡ out)
 
 -- whatever the differences are
-abbrev pub Picks : List NodeRecord → List ClientRecord → List ℕ → List ℕ → PickRequest → Answer
+abbrev pub PicksLent : List NodeRecord → List ClientRecord → List ℕ → List ℕ → PickRequest → Answer
     → List NodeRecord → List ClientRecord → List ℕ → Type 0
-Picks nodes clients spare blocks q answer nodes′ clients′ spare′ =
+PicksLent nodes clients spare blocks q answer nodes′ clients′ spare′ =
     (differences : List ℕ)
-    → Meets (entered (q .z) (Pick (q .c)) (stripeIn nodes clients blocks spare differences))
+    → Meets (onTables (q .z) (Pick (q .c)) (stripeIn nodes clients blocks spare differences))
     answer [] (stripeIn nodes′ clients′ blocks spare′ differences) ((nodes′ ≡ nodes) × (clients′ ≡ clients))
 
 -- by the parameter list of a step: a pick writes the spare alone
 abbrev pub PicksOnly : List NodeRecord → List ClientRecord → List ℕ → List ℕ → List ℕ → List ℕ → PickRequest → Answer
     → List NodeRecord → List ClientRecord → List ℕ → List ℕ → List ℕ → Type 0
 PicksOnly nodes clients blocks spare differences value q answer nodes′ clients′ blocks′ spare′ differences′ =
-    (blocks′ ≡ blocks) × ((differences′ ≡ differences) × Picks nodes clients spare blocks q answer nodes′ clients′ spare′)
+    (blocks′ ≡ blocks) × ((differences′ ≡ differences) × PicksLent nodes clients spare blocks q answer nodes′ clients′ spare′)

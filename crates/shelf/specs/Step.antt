@@ -21,7 +21,7 @@ use Rattle.shelf.specs.declared.Request.{Request}
 use Rattle.shelf.specs.declared.Returned.{Returned}
 use Rattle.shelf.specs.declared.Sought.{Sought}
 use Rattle.shelf.specs.declared.TakenClient.{TakenClient}
-use Rattle.shelf.specs.Shelf.{Reads, entered, stripeIn}
+use Rattle.shelf.specs.Shelf.{ReadsLent, onTables, stripeIn}
 use Rattle.shelf.specs.Table.{ClientTaken, NodeFound, NodesSeen, clientsIn, nodesIn}
 
 -- what a call looks for, by the record of its client
@@ -52,7 +52,7 @@ pub record StepsFound (f : Found) (t : TakenClient) (blocks spare differences va
   pub len : r .others .len ≡ f .len
   pub meets : (nodes : List NodeRecord) (clients : List ClientRecord) (l : Looked)
       → NodesSeen nodes (soughtFor (t .client) q) l → NodeFound nodes l f → ClientTaken clients (caller (q .call)) t
-      → Meets (entered (q .z) (stepOf (q .call) value) (stripeIn nodes clients blocks spare differences)) (r .answer) []
+      → Meets (onTables (q .z) (stepOf (q .call) value) (stripeIn nodes clients blocks spare differences)) (r .answer) []
       (stripeWith (applied (r .others .change) (setAt (nodesIn nodes) (r .back .j) (nodeOf (r .back .node))))
       (setAt (clientsIn clients) (r .client .c) (clientOf (r .client .client))) blocks′ spare′ differences′)
       ((r .others .change ≡ keep) × ((setAt nodes (r .back .j) (r .back .node) ≡ nodes) × ((setAt clients (r .client .c) (r .client .client) ≡ clients)
@@ -61,4 +61,4 @@ pub record StepsFound (f : Found) (t : TakenClient) (blocks spare differences va
 -- a read is at the node of its position
 abbrev pub ReadsFound : Found → List ℕ → List ℕ → ReadRequest → Answer → List ℕ → Type 0
 ReadsFound f out blocks q answer out′ =
-    (nodes : List NodeRecord) (l : Looked) → l .sought .j ≡ q .i → NodeFound nodes l f → Reads nodes out blocks q answer out′
+    (nodes : List NodeRecord) (l : Looked) → l .sought .j ≡ q .i → NodeFound nodes l f → ReadsLent nodes out blocks q answer out′

@@ -1,5 +1,5 @@
 // The entry points. Each is walked by a law.
-ghost use Rattle.shelf.specs.Shelf.{PicksOnly, Steps, Reads};
+ghost use Rattle.shelf.specs.Shelf.{PicksOnly, StepsLent, ReadsLent};
 use crate::PickRequest;
 use crate::ReadRequest;
 use crate::Request;
@@ -24,7 +24,7 @@ pub fn step(
     value: &[u8],
     request: Request,
 ) -> Answer
-    ensures { λ r. ⌜ Steps (now (nodes .entry)) (now (clients .entry)) (now (blocks .entry)) (now (spare .entry)) (now (differences .entry))
+    ensures { λ r. ⌜ StepsLent (now (nodes .entry)) (now (clients .entry)) (now (blocks .entry)) (now (spare .entry)) (now (differences .entry))
         (now (value .entry)) request r (now (nodes .exit)) (now (clients .exit)) (now (blocks .exit)) (now (spare .exit)) (now (differences .exit)) ⌝ }
 {
     let c = request.client();
@@ -41,7 +41,7 @@ pub fn step(
 
 // The block of data node i, into out.
 pub fn read(nodes: &[NodeRecord], out: &mut [u8], blocks: &[u8], request: ReadRequest) -> Answer
-    ensures { λ r. ⌜ Reads (now (nodes .entry)) (now (out .entry)) (now (blocks .entry)) request r (now (out .exit)) ⌝ }
+    ensures { λ r. ⌜ ReadsLent (now (nodes .entry)) (now (out .entry)) (now (blocks .entry)) request r (now (out .exit)) ⌝ }
 {
     let looked = request.sought();
     let found = take_node(nodes, looked);

@@ -13,7 +13,7 @@ use Rattle.basics.proofs.Lists.{length-listOf}
 use Rattle.machine.specs.Stripe.{Stripe, Answer, number}
 use Rattle.machine.specs.Calls.{Call}
 use Rattle.script.specs.Lines.{call, shelfLine, shelfCall, printed, shown}
-use Rattle.script.specs.Reading.{clipped, callIn, Holds, Takes, Ends}
+use Rattle.script.specs.Reading.{clipped, callIn, HasRead, Takes, Ends}
 use Rattle.script.specs.Writing.{Put}
 use Rattle.script.specs.declared.reader.Line.{Line}
 use Rattle.script.specs.declared.reader.LineReader.{LineReader}
@@ -113,7 +113,7 @@ line-answered {x = x} {lines = lines} {value = value} {end = end} {told = told} 
     (subst (λ (n : ℕ). Answers n told s before after end s′) (add-one lines ∙ ap suc (k .count)) a)))
 
 pub at-end : {lines byte end : ℕ} {begun : Bool} {reader next : LineReader} {value before after : List ℕ} {s s′ : Stripe} → byte ≡ 10 → length value ≡ 1
-    → ((value : List ℕ) → Holds [] next value)
+    → ((value : List ℕ) → HasRead [] next value)
     → ((x : State) → Is x lines reader (getD value 0 0 ∷ []) s → Answers (suc (x .lines)) (shelfCall (x .line)) (x .stripe) before after end s′)
     → Feeds (Kept lines begun reader value s) (byte ∷ []) (take end after) (Kept (lines + 1) false next value s′)
 unfolding outputOf left

@@ -17,5 +17,5 @@ use Rattle.script.specs.Lines as Lines
 use Rattle.shelfrun.specs.Shelfrun.{outputOf, left, shelfrun, exampleInput, exampleOutput}
 
 pub example : shelfrun exampleInput ≡ exampleOutput
-unfolding shelfrun outputOf left step Lines.parts Lines.digitsFrom Lines.numeral Lines.hexDigit Lines.bytesOf Lines.callOf Lines.lineOf Lines.hex Lines.decimalIn Field.double Field.timesBits Field.product Field.squares Field.inverse Blocks.part Blocks.setPart Blocks.byteAt Lists.listOf Blocks.table Blocks.zip Code.codeSizes Code.coefficient Decode.has Decode.setOf Decode.each Calls.isIn Sizes.sizesWithin Entries.sameId Entries.isIn Entries.isListed Entries.isRecentIn Entries.isOldIn Entries.lastRecentAfter Entries.aged Entries.idWithin Entries.entriesWithin Node.setWithin Node.nodeWithin Entries.idsWithin Client.unlOrExp Client.clientWithin Lists.elementAt Lists.setAt Stripe.guard Lists.everyOf Lists.someOf Writing.swapTests Writing.swap Writing.writeTests Writing.addTests Writing.add Writing.read
+unfolding shelfrun outputOf left step Lines.parts Lines.digitsFrom Lines.numeral Lines.hexDigit Lines.bytesOf Lines.callBy Lines.lineOf Lines.hex Lines.decimalIn Field.double Field.timesBits Field.product Field.squares Field.inverse Blocks.part Blocks.setPart Blocks.byteAt Lists.listOf Blocks.table Blocks.zip Code.codeSizes Code.coefficient Decode.has Decode.setOf Decode.each Calls.isIn Sizes.sizesWithin Entries.sameId Entries.isIn Entries.isListed Entries.isRecentIn Entries.isOldIn Entries.lastRecentAfter Entries.aged Entries.idWithin Entries.entriesWithin Node.setWithin Node.nodeWithin Entries.idsWithin Client.unlOrExp Client.clientWithin Lists.elementAt Lists.setAt Stripe.guard Lists.everyOf Lists.someOf Writing.swapTests Writing.swap Writing.writeTests Writing.addTests Writing.add Writing.read
 example = refl

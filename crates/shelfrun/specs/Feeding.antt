@@ -7,7 +7,7 @@ use Prim.Native.Nat.{ℕ}
 use Rattle.machine.specs.Stripe as Machine
 use Rattle.machine.specs.Calls.{Call}
 use Rattle.script.specs.Lines.{shownText}
-use Rattle.script.specs.Reading.{Holds}
+use Rattle.script.specs.Reading.{HasRead}
 use Rattle.script.specs.Writing.{Put}
 use Rattle.script.specs.declared.reader.LineReader.{LineReader}
 use Rattle.script.specs.declared.writer.Event.{Event}
@@ -31,7 +31,7 @@ pub record Answers (n : ℕ) (x : Option Call) (s : Machine.Stripe) (before afte
 -- the reader and its buffer hold the line so far
 pub record Is (x : State) (lines : ℕ) (reader : LineReader) (value : List ℕ) (s : Machine.Stripe) : Type 0 where
   pub count : lines ≡ x .lines
-  pub line : Holds (x .line) reader value
+  pub line : HasRead (x .line) reader value
   pub stripe : s ≡ x .stripe
 
 -- and whether a line has begun is known

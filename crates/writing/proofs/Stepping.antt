@@ -20,15 +20,15 @@ use Rattle.calls.specs.declared.Answer.the-variants.{Accepted, Shown, Added, Do
 use Rattle.calls.specs.Answers.{answerOf, isUnchanged, Meets, local}
 use Rattle.calls.proofs.Left.{left-free}
 use Rattle.limits.proofs.Returns.{refused-at-node}
-use Rattle.writing.specs.Stepping.{Steps}
+use Rattle.writing.specs.Stepping.{StepsRecords}
 
 -- the returns of the step: refused by the tests, and past them
 module _ {tests : Option Refusal} {effect : Outcome Local} {node : NodeRecord} {client : ClientRecord} {r : AtNode} where
-  pub steps-refused : {why : Refusal} → tests ≡ some why → r ≡ record { answer = Refused why; node = node; client = client } → Steps tests effect node client r
+  pub steps-refused : {why : Refusal} → tests ≡ some why → r ≡ record { answer = Refused why; node = node; client = client } → StepsRecords tests effect node client r
   steps-refused q e = record { by = rw q e }
 
   pub steps-made : tests ≡ none → answerOf (r .answer) [] ≡ effect .answer → nodeOf (r .node) ≡ effect .after .node → clientOf (r .client) ≡ effect .after .client
-      → Steps tests effect node client r
+      → StepsRecords tests effect node client r
   steps-made q a x y = record { by = rw q (a, (x, y)) }
 
 -- its answer says which
@@ -45,18 +45,18 @@ accepted-changes (Told finding) e = refl
 accepted-changes (Refused why) e = never-zero why refl e
 
 module _ {effect : Outcome Local} {node : NodeRecord} {client : ClientRecord} {r : AtNode} where
-  pub passed : (tests : Option Refusal) → Steps tests effect node client r → number (answerOf (r .answer) []) ≡ 0 → tests ≡ none
+  pub passed : (tests : Option Refusal) → StepsRecords tests effect node client r → number (answerOf (r .answer) []) ≡ 0 → tests ≡ none
   passed none s e = refl
   passed (some why) s e = never-zero why (ap (λ r. number (answerOf (r .answer) [])) (s .by)) e
 
-  pub call-refused : (blocks differences : List ℕ) (tests : Option Refusal) → (tests ≡ none → number (effect .answer) ≡ 0) → Steps tests effect node client r
+  pub call-refused : (blocks differences : List ℕ) (tests : Option Refusal) → (tests ≡ none → number (effect .answer) ≡ 0) → StepsRecords tests effect node client r
       → number (answerOf (r .answer) []) ≢ 0
       → Meets (unless tests (local (nodeOf node) (clientOf client) blocks differences) effect) (r .answer) []
       (local (nodeOf (r .node)) (clientOf (r .client)) blocks differences) ((r .node ≡ node) × (r .client ≡ client))
   call-refused blocks differences none zero s ne = absurd (ne (ap number (s .by .0) ∙ zero refl))
   call-refused blocks differences (some why) zero s ne = refused-at-node (s .by) refl
 
-  pub call-accepted : (blocks differences : List ℕ) (tests : Option Refusal) → Steps tests effect node client r → number (answerOf (r .answer) []) ≡ 0
+  pub call-accepted : (blocks differences : List ℕ) (tests : Option Refusal) → StepsRecords tests effect node client r → number (answerOf (r .answer) []) ≡ 0
       → {t u : List ℕ} → t ≡ effect .after .blocks → u ≡ effect .after .differences
       → Meets (unless tests (local (nodeOf node) (clientOf client) blocks differences) effect) (r .answer) []
       (local (nodeOf (r .node)) (clientOf (r .client)) t u) ((r .node ≡ node) × (r .client ≡ client))

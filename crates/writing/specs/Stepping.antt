@@ -17,5 +17,5 @@ StepsBy none effect node client r =
     (answerOf (r .answer) [] ≡ effect .answer) × ((nodeOf (r .node) ≡ effect .after .node) × (clientOf (r .client) ≡ effect .after .client))
 StepsBy (some why) effect node client r = r ≡ record { answer = Refused why; node = node; client = client }
 
-pub record Steps (tests : Option Refusal) (effect : Outcome Local) (node : NodeRecord) (client : ClientRecord) (r : AtNode) : Type 0 where
+pub record StepsRecords (tests : Option Refusal) (effect : Outcome Local) (node : NodeRecord) (client : ClientRecord) (r : AtNode) : Type 0 where
   pub by : StepsBy tests effect node client r

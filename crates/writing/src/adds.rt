@@ -18,7 +18,7 @@ ghost use Rattle.records.specs.View.{nodeOf, writeOf, clientOf};
 ghost use Rattle.machine.specs.Writing;
 ghost use Rattle.machine.specs.Writing.{isComplete, withDone, added};
 ghost use Rattle.calls.specs.Answers.{Meets, local};
-ghost use Rattle.writing.specs.Stepping.{Steps};
+ghost use Rattle.writing.specs.Stepping.{StepsRecords};
 use calls::Answer;
 use calls::AtNode;
 use calls::OfClient;
@@ -114,7 +114,7 @@ fn add_bytes(b: usize, c: u8, j: u8, i: u8, blocks: &mut [u8], differences: &[u8
 // The write in hand at node j, if it is not done there and the node takes it: the id entered, and j joined.
 fn step_write(z: Sizes, j: u8, write: Write, node: NodeRecord, client: ClientRecord) -> AtNode
     requires { ⌜ (client .hand ≡ Hand.Holding write) × (z .k ≤ z .n) × (node .entries .count ≤ 16) × (client .finished .count < 8) ⌝ }
-    ensures { λ r. ⌜ ((c : ℕ) (blocks differences : List ℕ) → Steps
+    ensures { λ r. ⌜ ((c : ℕ) (blocks differences : List ℕ) → StepsRecords
         (Writing.writeTests j (clientOf client .hand) (nodeOf node))
         (added z c j (clientOf client .hand) (local (nodeOf node) (clientOf client) blocks differences))
         node client r) ⌝ }
@@ -142,7 +142,7 @@ fn step_write(z: Sizes, j: u8, write: Write, node: NodeRecord, client: ClientRec
 // The tests past those of the limits, in the order of their numbers; then the two records as the add leaves them.
 fn step_records(z: Sizes, c: u8, j: u8, node: NodeRecord, client: ClientRecord) -> AtNode
     requires { ⌜ (sizesWithin z && (nodeWithin z (nodeOf node) && clientWithin z (clientOf client))) ≡ true ⌝ }
-    ensures { λ r. ⌜ ((blocks differences : List ℕ) → Steps
+    ensures { λ r. ⌜ ((blocks differences : List ℕ) → StepsRecords
         (Writing.addTests z c j (nodeOf node) (clientOf client))
         (added z c j (clientOf client .hand) (local (nodeOf node) (clientOf client) blocks differences))
         node client r) ⌝ }

@@ -15,7 +15,7 @@ ghost use Rattle.records.specs.View.{nodeOf, clientOf};
 ghost use Rattle.machine.specs.Stripe.{Accepted, answered};
 ghost use Rattle.machine.specs.Writing as Writing;
 ghost use Rattle.calls.specs.Answers.{Meets, local};
-ghost use Rattle.writing.specs.Stepping.{Steps};
+ghost use Rattle.writing.specs.Stepping.{StepsRecords};
 use calls::Answer;
 use calls::AtNode;
 use entries::Ids;
@@ -97,7 +97,7 @@ fn begin(id: WriteId, node: NodeRecord, client: ClientRecord) -> ClientRecord
 // The tests past those of the limits, in the order of their numbers; then the two records as the swap leaves them.
 fn step_records(z: Sizes, c: u8, i: u8, node: NodeRecord, client: ClientRecord) -> AtNode
     requires { ⌜ node .entries .count ≤ 16 ⌝ }
-    ensures { λ r. ⌜ ((value blocks differences : List ℕ) → Steps
+    ensures { λ r. ⌜ ((value blocks differences : List ℕ) → StepsRecords
         (Writing.swapTests z c i (nodeOf node) (clientOf client))
         (answered Accepted (Writing.swapped z c i value (local (nodeOf node) (clientOf client) blocks differences)))
         node client r) ⌝ }

@@ -27,7 +27,7 @@ use records::Sizes;
 // The node's step, by the half that the round is in.
 fn sweep_entries(z: Sizes, node: NodeRecord, client: ClientRecord) -> NodeStep
     requires { ⌜ (node .entries .count ≤ entryLimit) × (client .moved .count ≤ finishedLimit) × (client .finished .count ≤ finishedLimit) ⌝ }
-    ensures { λ r. ⌜ NodeSteps.Meets (sweepAnswer (nodeOf node))
+    ensures { λ r. ⌜ NodeSteps.MeetsAtNode (sweepAnswer (nodeOf node))
         (withEntries (nodeOf node) (sweptEntries z (clientOf client) (nodeOf node .entries))) node r ⌝ }
 {
     let moved = client.moved;

@@ -4,14 +4,14 @@ use Prim.Native.Nat.{_≤_, _-_}
 use native.Mathlib.Omega.{arith}
 use lib.ListN.{length, take}
 use borrow.Author.Needs.{needs}
-use Rattle.code.specs.Calls.{given, isIn}
+use Rattle.code.specs.Calls.{givenSet, isIn}
 use Rattle.code.specs.View.{nodeSetOf}
 use Rattle.coding.proofs.Given.{given-next, given-all}
 use Rattle.coding.proofs.set_of.Statement.{statement}
 use Rattle.coding.proofs.set_of.Tie as tie
 
 abbrev Inv-loop : tie.InvT-loop
-Inv-loop nodes set₀ i₀ set i = (i ≤ length nodes) × (nodeSetOf set ≡ given (take i nodes))
+Inv-loop nodes set₀ i₀ set i = (i ≤ length nodes) × (nodeSetOf set ≡ givenSet (take i nodes))
 
 abbrev μ-loop : tie.MeasureT-loop
 μ-loop nodes set₀ i₀ set i = length nodes - i

@@ -5,7 +5,7 @@ use denote.Triple.Table.{entered, cited}
 use Rattle.calls.proofs.Answer as answer
 use Rattle.lent.proofs.ReadEntry.{Step, meets}
 use Rattle.lent.proofs.Side.{Ask, Take}
-use Rattle.shelf.specs.Shelf.{Reads}
+use Rattle.shelf.specs.Shelf.{ReadsLent}
 use Rattle.shelf.specs.Step.{ReadsFound}
 use Rattle.shelf.proofs.Entered.{ReadAt, entered-read}
 use Rattle.shelf.proofs.ReadRequest as read-request
@@ -26,7 +26,7 @@ unfolding code.routine tablesOf
 read-spec 𝓤 H 𝓜 𝓖 𝓡 =
     entered 𝓤 H (tripleOf 𝓤 H (𝓖 .A) this.signature (this.spec 𝓤 H (𝓖 .A) (𝓜 .mem) (𝓡 .run)))
     (tables 𝓤 H 𝓜 𝓡 code.env .C) (tables 𝓤 H 𝓜 𝓡 code.env .Λ) key.name code.function (code.unfolded 𝓤 H 𝓜 𝓡)
-    (meets nodes read-request.the-row answer.the-row read-request-rec answer-rec ReadAt ReadsFound Reads entered-read sought-def.name node-def.name read-def.name
+    (meets nodes read-request.the-row answer.the-row read-request-rec answer-rec ReadAt ReadsFound ReadsLent entered-read sought-def.name node-def.name read-def.name
     𝓤 H (𝓖 .A) (givenOf 𝓤 H 𝓜 𝓖) (tablesOf 𝓤 H 𝓜 (tables 𝓤 H 𝓜 𝓡 code.env))
     (cited 𝓤 H (Ask read-request.the-row (nodes .P) ReadAt 𝓤 H (𝓖 .A)) 𝓜 𝓡 code.env sought-def.name sought-def.routine code.calls-shelf·ReadRequest·sought (sought-thm.met 𝓤 H 𝓜 𝓖 𝓡))
     (cited 𝓤 H (Take nodes 𝓤 H (𝓖 .A)) 𝓜 𝓡 code.env node-def.name node-def.routine code.calls-shelf·table·take-node (node-thm.met 𝓤 H 𝓜 𝓖 𝓡))

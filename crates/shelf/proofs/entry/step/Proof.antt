@@ -5,7 +5,7 @@ use denote.Triple.Table.{entered, cited}
 use Rattle.calls.proofs.Answer as answer
 use Rattle.lent.proofs.Side.{Ask, Ask2, Take, Put}
 use Rattle.lent.proofs.StepEntry.{Step, meets}
-use Rattle.shelf.specs.Shelf.{Steps}
+use Rattle.shelf.specs.Shelf.{StepsLent}
 use Rattle.shelf.specs.Step.{StepsFound}
 use Rattle.shelf.specs.Table.{NodeFound}
 use Rattle.shelf.proofs.Entered.{CalledBy, Asked, entered-step}
@@ -43,7 +43,7 @@ step-spec 𝓤 H 𝓜 𝓖 𝓡 =
     (tables 𝓤 H 𝓜 𝓡 code.env .C) (tables 𝓤 H 𝓜 𝓡 code.env .Λ) key.name code.function (code.unfolded 𝓤 H 𝓜 𝓡)
     (meets seen-nodes clients found.the-row found-rec NodeFound node-back others-back clients-back request.the-row answer.the-row returned.the-row
     request-rec answer-rec returned-parts
-    CalledBy Asked StepsFound Steps entered-step client-def.name take-def.name sought-def.name look-def.name node-def.name
+    CalledBy Asked StepsFound StepsLent entered-step client-def.name take-def.name sought-def.name look-def.name node-def.name
     step-def.name back-def.name others-def.name put-def.name
     𝓤 H (𝓖 .A) (givenOf 𝓤 H 𝓜 𝓖) (tablesOf 𝓤 H 𝓜 (tables 𝓤 H 𝓜 𝓡 code.env))
     (cited 𝓤 H (Ask request.the-row (clients .P) CalledBy 𝓤 H (𝓖 .A)) 𝓜 𝓡 code.env client-def.name client-def.routine code.calls-shelf·Request·client (client-thm.met 𝓤 H 𝓜 𝓖 𝓡))

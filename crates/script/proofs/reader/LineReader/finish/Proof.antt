@@ -1,7 +1,7 @@
 -- `script::reader::LineReader::finish` meets its contract. Assumes nothing.
 use mathlib.Core.Path.{refl}
 use mathlib.Core.List.{append-nil}
-use Rattle.script.specs.Lines.{lineOf, callOf, bytesOf}
+use Rattle.script.specs.Lines.{lineOf, callBy, bytesOf}
 use Rattle.script.specs.Reading.{goesOn, afterFirst, afterSecond, numberFrom, clippedFrom, bytesFrom}
 use Rattle.script.proofs.Reading.{ends}
 use Rattle.script.proofs.Clips.{clip-kept, no-value}
@@ -18,7 +18,7 @@ unfolding goesOn lineOf
 returns-2 c = rw (c .enum-told2 .given .1) (ends (λ value. refl))
 
 returns-3 : tie.Need-returns-3
-unfolding goesOn lineOf callOf
+unfolding goesOn lineOf callBy
 returns-3 c = rw (c .enum-told3 .given .1) (ends (λ value. refl))
 
 returns-4 : tie.Need-returns-4

@@ -10,23 +10,23 @@ use Rattle.records.specs.declared.NodeAnswer.the-variants.{Accepted, Refused}
 use Rattle.records.specs.declared.Refusal.{Refusal}
 use Rattle.records.specs.declared.Refusal.the-variants.{OutOfPhase, NotHeld}
 use Rattle.records.specs.Node.{Node, isRecons, heldBy, weakenedBy}
-use Rattle.records.specs.NodeSteps.{Left, Meets, weakenAnswer}
+use Rattle.records.specs.NodeSteps.{LeftAtNode, MeetsAtNode, weakenAnswer}
 use Rattle.records.specs.View.{nodeOf}
 use Rattle.stripe.specs.Seen.{weakenedFor}
 use Rattle.stripe.proofs.seen.Change.made.Statement.{statement}
 use Rattle.stripe.proofs.seen.Change.made.Tie as tie
 
 -- what a step that is always accepted leaves
-after-step : {after : Node} {before : NodeRecord} {r : NodeStep} → Meets Accepted after before r → nodeOf (r .node) ≡ after
+after-step : {after : Node} {before : NodeRecord} {r : NodeStep} → MeetsAtNode Accepted after before r → nodeOf (r .node) ≡ after
 after-step m = rw (m .answered) at (m .left)
 
 -- and a weaken, which may be refused
-after-weaken : (c : ℕ) {before : NodeRecord} {r : NodeStep} → Meets (weakenAnswer c (nodeOf before)) (weakenedBy c (nodeOf before)) before r
+after-weaken : (c : ℕ) {before : NodeRecord} {r : NodeStep} → MeetsAtNode (weakenAnswer c (nodeOf before)) (weakenedBy c (nodeOf before)) before r
     → nodeOf (r .node) ≡ weakenedFor c (nodeOf before)
 after-weaken c {before} {r} m =
     by (isRecons (before .opmode)) (heldBy c (nodeOf before)) (rw (m .answered) at (m .left))
   where
-    by : (recons held : Bool) → Left (cond recons (Refused OutOfPhase) (cond (not held) (Refused NotHeld) Accepted)) (weakenedBy c (nodeOf before)) before (r .node)
+    by : (recons held : Bool) → LeftAtNode (cond recons (Refused OutOfPhase) (cond (not held) (Refused NotHeld) Accepted)) (weakenedBy c (nodeOf before)) before (r .node)
         → nodeOf (r .node) ≡ cond (recons || not held) (nodeOf before) (weakenedBy c (nodeOf before))
     by true held l = ap nodeOf l
     by false true l = l
