@@ -11,7 +11,8 @@ use Rattle.entries.specs.declared.node_entries.EntryTest.{EntryTest}
 use Rattle.entries.specs.declared.node_entries.EntryTest.the-variants.{Of, RecentOf, OldOf, Due}
 use Rattle.entries.specs.declared.node_entries.EntryChange.{EntryChange}
 use Rattle.entries.specs.declared.node_entries.EntryChange.the-variants.{Mark, Discard}
-use Rattle.entries.specs.Entries.{Entry, ageLimit, dueAge, sameId, isRecent, isIn, isListed, isRecentIn, isOldIn, older, discard, markOld, someDue, idWithin, idsWithin}
+use Rattle.entries.specs.Entries.{Entry, ageLimit, dueAge, sameId, isRecent, isIn, isListed, isRecentIn, isOldIn}
+use Rattle.entries.specs.Entries.{older, discard, markOld, someDue, idWithin, idsWithin}
 
 -- an id passes the test; some id of the list does
 abbrev pub idPasses : IdTest → WriteId → Bool

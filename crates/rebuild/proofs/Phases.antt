@@ -1,12 +1,11 @@
 -- The phases of a rebuild: what the limits of the client's record say of the phase's node and epoch, and the calls out of their phase. Assumes nothing.
 use mathlib.Core.Path.{_≡_, refl, _∙_}
-use mathlib.Core.Logic.{_≢_, inl, inr}
+use mathlib.Core.Logic.{inl, inr}
 use mathlib.Core.Bool.{Bool, true, false, _&&_, not}
 use mathlib.Core.List.{List, [], _∷_}
 use Prim.Native.Nat.{ℕ, _≤_, _<_, max}
-use native.Mathlib.Omega.{arith}
 use lib.Dec.{eqb, leb, ltb}
-use borrow.Author.Tests.{leb-true, ltb-true, ne-eqb, not-true}
+use borrow.Author.Tests.{leb-true, ltb-true, not-true}
 use types.Run.{OneOf}
 use denote.Enum.Declared.{tagOf}
 use Rattle.basics.proofs.Tests.{and-left, and-right}
@@ -20,7 +19,7 @@ use Rattle.code.specs.View.{nodeSetOf}
 use Rattle.records.specs.declared.Phase.{Phase}
 use Rattle.records.specs.declared.Phase.the-variants.{NoRebuild, Locking, Picking, Writing, Settling, Unlocking}
 use Rattle.records.specs.declared.Refusal.the-variants.{OutOfPhase}
-use Rattle.records.specs.Sizes.{isNode, isRedundant}
+use Rattle.records.specs.Sizes.{isNode}
 use Rattle.records.specs.Node as Records
 use Rattle.records.specs.Node.{epochLimit, setWithin}
 use Rattle.records.specs.Client.{handWithin, rebuildWithin, clientWithin}
@@ -49,21 +48,10 @@ module _ {z : Sizes} {c : ℕ} {s : Seen} {y : ClientRecord} (a : Admitted z c s
       let w : (isNode z j && (setWithin (z .n) (nodeSetOf set) && ltb (e .0) epochLimit)) ≡ true = rw p at within in
       record { least = search (and-left, leb-true); most = search (and-left, and-right, leb-true); few = nodes-few z (a .sizes) }
 
-  pub unlocking : {j : ℕ} → y .phase ≡ Unlocking j → Node z j
-  unlocking {j} p =
-      let w : isNode z j ≡ true = rw p at within in
-      record { least = search (and-left, leb-true); most = search (and-right, leb-true); few = nodes-few z (a .sizes) }
-
   pub locking : {n : ℕ} {expired : NodeSet} → y .phase ≡ Locking n expired → n < z .n
   locking {n} {expired} p =
       let w : (leb 1 n && ltb n (z .n)) ≡ true = locking-within z n expired ∙ (rw p at within) in
       search (and-right, ltb-true)
-
-  pub tightening : {j : ℕ} → y .phase ≡ Picking j → j ≢ 0 → Node z j
-  tightening {j} p some =
-      let w : isRedundant z j ≡ true = rw (ne-eqb j 0 some) at (rw p at within) in
-      let above : z .k < j = search (and-left, ltb-true) in
-      record { least = omega arith; most = search (and-right, leb-true); few = nodes-few z (a .sizes) }
 
   pub settling : {j : ℕ} {e : Epoch} → y .phase ≡ Settling j e → Node z j
   settling {j} {e} p =

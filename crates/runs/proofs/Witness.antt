@@ -220,7 +220,7 @@ record Trace : Type 0 where
   finishing-said : AllSaid afterPick finishing
 
 trace : Trace
-unfolding AllSaid step Field.double Field.timesBits Field.product Field.squares Field.inverse Blocks.part Blocks.setPart Blocks.byteAt Lists.listOf Blocks.table Blocks.zip Code.codeSizes Code.sum Code.coefficient Code.row Code.symbol Code.redundant Decode.has Decode.setOf Decode.membersFrom Decode.others Decode.scale Decode.recover Decode.recovered Decode.recoveredTable Decode.each Decode.invertible Sizes.sizesWithin Entries.sameId Entries.isIn Entries.isListed Entries.isRecentIn Entries.isOldIn Entries.lastRecentAfter Entries.aged Entries.idWithin Entries.entriesWithin Node.setWithin Node.nodeWithin Entries.idsWithin Client.unlOrExp Client.clientWithin Machine.elementAt Machine.setAt guard everyOf Machine.someOf Writing.swap Writing.addEnter Writing.addAfter Writing.addWrite Writing.add Rebuild.holding Rebuild.lockNode Rebuild.lockIn Rebuild.lock Rebuild.recentIds Rebuild.atPosition Rebuild.largest Rebuild.countInit Rebuild.largestEpoch Rebuild.pickNow Rebuild.pickIn Rebuild.pick Rebuild.writeIn Rebuild.write Rebuild.settleIn Rebuild.settle Sets.nodeSetOf last
+unfolding AllSaid step Field.double Field.timesBits Field.product Field.squares Field.inverse Blocks.part Blocks.setPart Blocks.byteAt Lists.listOf Blocks.table Blocks.zip Code.codeSizes Code.sum Code.coefficient Code.row Code.symbol Code.redundant Decode.has Decode.setOf Decode.membersFrom Decode.others Decode.scale Decode.recover Decode.recovered Decode.recoveredTable Decode.each Decode.invertible Sizes.sizesWithin Entries.sameId Entries.isIn Entries.isListed Entries.isRecentIn Entries.isOldIn Entries.lastRecentAfter Entries.aged Entries.idWithin Entries.entriesWithin Node.setWithin Node.nodeWithin Entries.idsWithin Client.unlOrExp Client.clientWithin Lists.elementAt Lists.setAt guard everyOf Lists.someOf Writing.swapTests Writing.swap Writing.writeTests Writing.addTests Writing.add Rebuild.holding Rebuild.lockNode Rebuild.lock Rebuild.recentIds Rebuild.atPosition Rebuild.largest Rebuild.countInit Rebuild.largestEpoch Rebuild.pickNow Rebuild.pick Rebuild.write Rebuild.settle Sets.nodeSetOf last
 trace =
     record {
       writing-said = (refl, (refl, (refl, tt)));
