@@ -1,5 +1,6 @@
 // The calls many times over, for the benchmark to time. Each function answers the number of its last call's answer: 0 if all were accepted.
 mod rebuilds; // rebuilds.rt: a whole rebuild
+mod tables; // tables.rt: a call on lent tables
 mod writes; // writes.rt: swaps and adds
 
 use records::Sizes;

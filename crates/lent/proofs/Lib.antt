@@ -1,6 +1,7 @@
 pub mod Changing
 pub mod Elem
 pub mod Frees
+pub mod Local
 pub mod Pure
 pub mod ReadEntry
 pub mod Seeing
