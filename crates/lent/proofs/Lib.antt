@@ -1,5 +1,6 @@
 pub mod Changing
 pub mod Elem
+pub mod Entry
 pub mod Frees
 pub mod Local
 pub mod Pure
@@ -7,3 +8,4 @@ pub mod ReadEntry
 pub mod Seeing
 pub mod Side
 pub mod StepEntry
+pub mod Twice

@@ -20,7 +20,7 @@ use mir.Syntax.{Name, Ty, Mutability, Lifetime, Fn, Opd as Operand, Rv as RValue
 use mir.Syntax.{local, valueLocal, memorySlot, seq, assign, call, return}
 use mir.Val.{Val, WT, hasTy}
 use base.Logic.{SProp, ent, sep, emp, ex, via, fst∗, id⊢}
-use base.Fml.{Lft, Share, GName, Fml, fsep, fat, froom, flft, flent}
+use base.Fml.{Lft, Share, GName, Fml, ftrue, fsep, fat, froom, flft, flent}
 use prog.Wp.{Heap, Env, Calls, Loops, WpFn, Tables}
 use ghost.Atoms.{Atoms, sem}
 use contract.Monad.{fact}
@@ -52,9 +52,9 @@ use denote.Triple.Walked.{says, Stays, stay-none, stay-none-slice, gave-slice, w
 use denote.Exit.{yes}
 use denote.Signature.{plain, mutSlice, shrSlice}
 use Rattle.lent.proofs.Elem.{Rec}
+use Rattle.lent.proofs.Entry.{Loan, Token, Left, Shr, list, valOf, Relation, Entry, enters}
 use Rattle.lent.proofs.Frees.{gone, unused}
-use Rattle.lent.proofs.Pure.{Got, calls-given, gives}
-use Rattle.lent.proofs.Side.{sliceAt, refAt, endsAs}
+use Rattle.lent.proofs.Side.{sliceAt, refAt}
 
 -- `[x; 1]` is one record
 abbrev pub filled : ℕ → Operand → RValue
@@ -165,180 +165,81 @@ module _ (N C Q A : RattleType) (FN : Table N) (FC : Table C) (q : Rec Q) (a : R
         (seq (call #step (copy (place 11 []) ∷ copy (place 13 []) ∷ copy (place 15 []) ∷ copy (place 17 []) ∷ copy (place 19 []) ∷ copy (place 6 []) ∷ copy (place 7 []) ∷ []) (place 0 [])) return)))))))))))));
   }
 
-  module _ (Stepped : List (N .Denot) → List (C .Denot) → List ℕ → List ℕ → List ℕ → List ℕ → Q .Denot → A .Denot → List (N .Denot) → List (C .Denot) → List ℕ → List ℕ → List ℕ → Type 0) where
-    abbrev entry-ended : Ended
-    entry-ended = record {
+  module _ (Stepped : Relation N C Q A)
+      (Said : N .Denot → C .Denot → List ℕ → List ℕ → List ℕ → List ℕ → Q .Denot → A .Denot → List ℕ → List ℕ → List ℕ → Type 0) where
+    abbrev own-ended : Ended
+    own-ended = record {
       signature = record {
-        lifetimes = 6;
+        lifetimes = 4;
         outlives = [];
-        params = mutSlice 0 tt (λ _. N) ∷ mutSlice 1 tt (λ _. C) ∷ mutSlice 2 tt (λ _. u8) ∷ mutSlice 3 tt (λ _. u8) ∷ mutSlice 4 tt (λ _. u8) ∷ shrSlice 5 tt (λ _. u8) ∷ plain (λ _. Q) ∷ [];
+        params = plain (λ _. N) ∷ plain (λ _. C) ∷ mutSlice 0 tt (λ _. u8) ∷ mutSlice 1 tt (λ _. u8) ∷ mutSlice 2 tt (λ _. u8) ∷ shrSlice 3 tt (λ _. u8) ∷ plain (λ _. Q) ∷ [];
         result = plain (λ _. A);
       };
       kept = (yes, (yes, (yes, (yes, (yes, (yes, (yes, tt)))))));
     }
 
-    abbrev entry-clauses : {M : Type 1} (𝓤 : URA M) → Clauses 𝓤 entry-ended
-    entry-clauses 𝓤 κs a = record {
+    abbrev own-clauses : {M : Type 1} (𝓤 : URA M) → Clauses 𝓤 own-ended
+    own-clauses 𝓤 κs a = record {
       ghost = Unit {0};
       requires = λ _. emp 𝓤;
-      ensures = λ _ r e. fact 𝓤 (Stepped (now (a .0)) (now (a .1 .0)) (now (a .1 .1 .0)) (now (a .1 .1 .1 .0)) (now (a .1 .1 .1 .1 .0)) (now (a .1 .1 .1 .1 .1 .0)) (a .1 .1 .1 .1 .1 .1 .0) r (now (e .0)) (now (e .1 .0)) (now (e .1 .1 .0)) (now (e .1 .1 .1 .0)) (now (e .1 .1 .1 .1 .0)));
+      ensures = λ _ r e. fact 𝓤 (Said (a .0) (a .1 .0) (now (a .1 .1 .0)) (now (a .1 .1 .1 .0)) (now (a .1 .1 .1 .1 .0)) (now (a .1 .1 .1 .1 .1 .0)) (a .1 .1 .1 .1 .1 .1 .0) r
+          (now (e .1 .1 .0)) (now (e .1 .1 .1 .0)) (now (e .1 .1 .1 .1 .0)));
     }
 
-    abbrev pub Entry : {M : Type 1} (𝓤 : URA M) (H : Heap 𝓤) (A′ : Atoms 𝓤) → Contract 𝓤
-    Entry 𝓤 H A′ = tripleOf 𝓤 H A′ (entry-ended .signature) (closing 𝓤 H A′ entry-ended (entry-clauses 𝓤))
+    abbrev pub Owned : {M : Type 1} (𝓤 : URA M) (H : Heap 𝓤) (A′ : Atoms 𝓤) → Contract 𝓤
+    Owned 𝓤 H A′ = tripleOf 𝓤 H A′ (own-ended .signature) (closing 𝓤 H A′ own-ended (own-clauses 𝓤))
 
-    module _ (Said : N .Denot → C .Denot → List ℕ → List ℕ → List ℕ → List ℕ → Q .Denot → A .Denot → List ℕ → List ℕ → List ℕ → Type 0) where
-      abbrev own-ended : Ended
-      own-ended = record {
-        signature = record {
-          lifetimes = 4;
-          outlives = [];
-          params = plain (λ _. N) ∷ plain (λ _. C) ∷ mutSlice 0 tt (λ _. u8) ∷ mutSlice 1 tt (λ _. u8) ∷ mutSlice 2 tt (λ _. u8) ∷ shrSlice 3 tt (λ _. u8) ∷ plain (λ _. Q) ∷ [];
-          result = plain (λ _. A);
-        };
-        kept = (yes, (yes, (yes, (yes, (yes, (yes, (yes, tt)))))));
-      }
+    abbrev stayed : Stays (own-ended .signature .params) (own-ended .kept)
+    stayed = (stay-none (λ _. N) yes, (stay-none (λ _. C) yes, (gave-slice (0 ∷ []) tt (plain (λ _. u8)), (gave-slice (1 ∷ []) tt (plain (λ _. u8)),
+        (gave-slice (2 ∷ []) tt (plain (λ _. u8)), (stay-none-slice (3 ∷ []) tt (plain (λ _. u8)) yes, (stay-none (λ _. Q) yes, tt)))))))
 
-      abbrev own-clauses : {M : Type 1} (𝓤 : URA M) → Clauses 𝓤 own-ended
-      own-clauses 𝓤 κs a = record {
-        ghost = Unit {0};
-        requires = λ _. emp 𝓤;
-        ensures = λ _ r e. fact 𝓤 (Said (a .0) (a .1 .0) (now (a .1 .1 .0)) (now (a .1 .1 .1 .0)) (now (a .1 .1 .1 .1 .0)) (now (a .1 .1 .1 .1 .1 .0)) (a .1 .1 .1 .1 .1 .1 .0) r (now (e .1 .1 .0)) (now (e .1 .1 .1 .0)) (now (e .1 .1 .1 .1 .0)));
-      }
+    abbrev pub Implied : Type 0
+    Implied = (x : N .Denot) (c : C .Denot) (b₁ b₂ b₃ b₄ c₁ c₂ c₃ : List ℕ) (y : Q .Denot) (r : A .Denot) (zsN : List (N .Denot)) (zsC : List (C .Denot))
+        → length zsN ≡ FN .n → length zsC ≡ FC .n → Stepped (equal N FN x) (equal C FC c) b₁ b₂ b₃ b₄ y r zsN zsC c₁ c₂ c₃ → Said x c b₁ b₂ b₃ b₄ y r c₁ c₂ c₃
 
-      abbrev stayed : Stays (own-ended .signature .params) (own-ended .kept)
-      stayed = (stay-none (λ _. N) yes, (stay-none (λ _. C) yes, (gave-slice (0 ∷ []) tt (plain (λ _. u8)), (gave-slice (1 ∷ []) tt (plain (λ _. u8)), (gave-slice (2 ∷ []) tt (plain (λ _. u8)), (stay-none-slice (3 ∷ []) tt (plain (λ _. u8)) yes, (stay-none (λ _. Q) yes, tt)))))))
+    module _ (implied : Implied) (#step : Name) {M : Type 1} (𝓤 : URA M) (H : Heap 𝓤) (A′ : Atoms 𝓤) (W : Given 𝓤 H A′) where
+      module _ (x : N .Denot) (c : C .Denot) (s₁ s₂ s₃ s₄ : Loan u8) (y : Q .Denot)
+          (x-is : Is N x (FN .r .val x ∷ [])) (c-is : Is C c (FC .r .val c ∷ [])) (y-is : Is Q y (q .val y ∷ [])) where
+        abbrev passes : List Val
+        passes = FN .r .val x ∷ FC .r .val c ∷ valOf s₁ ∷ valOf s₂ ∷ valOf s₃ ∷ valOf s₄ ∷ q .val y ∷ []
 
-      abbrev pub Implied : Type 0
-      Implied = (x : N .Denot) (c : C .Denot) (b₁ b₂ b₃ b₄ c₁ c₂ c₃ : List ℕ) (y : Q .Denot) (r : A .Denot) (zsN : List (N .Denot)) (zsC : List (C .Denot)) → length zsN ≡ FN .n → length zsC ≡ FC .n
-          → Stepped (equal N FN x) (equal C FC c) b₁ b₂ b₃ b₄ y r zsN zsC c₁ c₂ c₃ → Said x c b₁ b₂ b₃ b₄ y r c₁ c₂ c₃
+        abbrev vals : (List Val × (List Val × (List Val × (List Val × (List Val × (List Val × (List Val × Unit {0})))))))
+        vals = (FN .r .val x ∷ [], (FC .r .val c ∷ [], (valOf s₁ ∷ [], (valOf s₂ ∷ [], (valOf s₃ ∷ [], (valOf s₄ ∷ [], (q .val y ∷ [], tt)))))))
 
-      module _ (implied : Implied) (#step : Name) {M : Type 1} (𝓤 : URA M) (H : Heap 𝓤) (A′ : Atoms 𝓤) (W : Given 𝓤 H A′) where
-        module _ (x : N .Denot) (c : C .Denot) (κ₁ : Lft) (q₁ : Share) (bs₁ : RefT (List ℕ)) (κ₂ : Lft) (q₂ : Share) (bs₂ : RefT (List ℕ)) (κ₃ : Lft) (q₃ : Share) (bs₃ : RefT (List ℕ)) (κ₄ : Lft) (q₄ : Share) (bs₄ : RefT (List ℕ)) (y : Q .Denot)
-            (x-is : Is N x (FN .r .val x ∷ [])) (c-is : Is C c (FC .r .val c ∷ [])) (y-is : Is Q y (q .val y ∷ [])) where
-          abbrev vx : Val
-          vx = FN .r .val x
+        abbrev Post : Val → SProp 𝓤
+        Post = walkOf 𝓤 H A′ own-ended stayed (own-clauses 𝓤) .post (((s₁ .κ, (s₂ .κ, (s₃ .κ, (s₄ .κ, tt)))), (s₁ .q, (s₂ .q, (s₃ .q, (s₄ .q, tt)))), tt,
+            (x, (c, (s₁ .s, (s₂ .s, (s₃ .s, (s₄ .s, (y, tt))))))), vals), tt)
 
-          abbrev vc : Val
-          vc = FC .r .val c
+        exits : (r : A .Denot) (v : Val) → Is A r (v ∷ []) → (z : List ℕ × (List ℕ × List ℕ))
+            → (length (z .0) ≡ length (list s₁)) × ((length (z .1 .0) ≡ length (list s₂)) × (length (z .1 .1) ≡ length (list s₃)))
+            → Said x c (list s₁) (list s₂) (list s₃) (list s₄) y r (z .0) (z .1 .0) (z .1 .1)
+            → ent 𝓤 (⋆ 𝓤 H A′ (‵ (Token s₁) ∷ ‵ (Left s₁ (z .0)) ∷ ‵ (Token s₂) ∷ ‵ (Left s₂ (z .1 .0)) ∷ ‵ (Token s₃) ∷ ‵ (Left s₃ (z .1 .1)) ∷ ‵ (Token s₄) ∷ ‵ (Shr s₄) ∷ [])) (Post v)
+        exits r v r-is z same said =
+            qed W (‵ (Token s₁) ∷ ‵ (Left s₁ (z .0)) ∷ ‵ (Token s₂) ∷ ‵ (Left s₂ (z .1 .0)) ∷ ‵ (Token s₃) ∷ ‵ (Left s₃ (z .1 .1)) ∷ ‵ (Token s₄) ∷ ‵ (Shr s₄) ∷ []) ∵
+            suffices ! _ (ends-at 𝓤 H A′ own-ended stayed (own-clauses 𝓤) W (((s₁ .κ, (s₂ .κ, (s₃ .κ, (s₄ .κ, tt)))), (s₁ .q, (s₂ .q, (s₃ .q, (s₄ .q, tt)))), tt,
+            (x, (c, (s₁ .s, (s₂ .s, (s₃ .s, (s₄ .s, (y, tt))))))), vals), tt) v r (FN .r .last x, (FC .r .last c, (z .0, (z .1 .0, (z .1 .1, (tt, (q .last y, tt)))))))
+            (tt, (tt, (same .0, (same .1 .0, (same .1 .1, (tt, (tt, tt)))))))) $ says ! said $
+            nothing ! $ move ! (7 ∷ 0 ∷ []) $ join ! $ move ! (5 ∷ 0 ∷ []) $ join ! $ move ! (3 ∷ 0 ∷ []) $ join ! $ move ! (1 ∷ 0 ∷ []) $ join ! $ frame ! $ nothing ! $ owned ! Q (Is Q) (q .makes 𝓤 H A′ W) y _ y-is $ fjoin ! $ move ! (4 ∷ 0 ∷ []) $ fjoin ! $ move ! (3 ∷ 0 ∷ []) $ fjoin ! $ move ! (2 ∷ 0 ∷ []) $ fjoin ! $ move ! (1 ∷ 0 ∷ []) $ fjoin ! $ 
+              owned ! C (Is C) (FC .r .makes 𝓤 H A′ W) c _ c-is $ fjoin ! $ owned ! N (Is N) (FN .r .makes 𝓤 H A′ W) x _ x-is $ fjoin ! $ frame ! $ owned ! A (Is A) (a .makes 𝓤 H A′ W) r _ r-is $ done !
 
-          abbrev vq : Val
-          vq = q .val y
+        -- the loans of the two tables at b, under δ
+        abbrev nodes-for : ℕ → ℕ → GName → Loan N
+        nodes-for b ν δ = record { κ = ν ∷ []; q = fullShare; s = refAt b 0 (equal N FN x) δ }
 
-          abbrev v₁ : Val
-          v₁ = sliceVal (bs₁ .ptr) (length (bs₁ .now))
+        abbrev clients-for : ℕ → ℕ → GName → Loan C
+        clients-for b μ ε = record { κ = μ ∷ []; q = fullShare; s = refAt b 0 (equal C FC c) ε }
 
-          abbrev v₂ : Val
-          v₂ = sliceVal (bs₂ .ptr) (length (bs₂ .now))
-
-          abbrev v₃ : Val
-          v₃ = sliceVal (bs₃ .ptr) (length (bs₃ .now))
-
-          abbrev v₄ : Val
-          v₄ = sliceVal (bs₄ .ptr) (length (bs₄ .now))
-
-          abbrev vals : (List Val × (List Val × (List Val × (List Val × (List Val × (List Val × (List Val × Unit {0})))))))
-          vals = (vx ∷ [], (vc ∷ [], (v₁ ∷ [], (v₂ ∷ [], (v₃ ∷ [], (v₄ ∷ [], (vq ∷ [], tt)))))))
-
-          abbrev Post : Val → SProp 𝓤
-          Post = walkOf 𝓤 H A′ own-ended stayed (own-clauses 𝓤) .post (((κ₁, (κ₂, (κ₃, (κ₄, tt)))), (q₁, (q₂, (q₃, (q₄, tt)))), tt, (x, (c, (bs₁, (bs₂, (bs₃, (bs₄, (y, tt))))))), vals), tt)
-
-          -- the tokens, and what each slice owns
-          abbrev Tok : SProp 𝓤
-          Tok = sep 𝓤 (A′ .lft κ₁ q₁) (sep 𝓤 (A′ .lft κ₂ q₂) (sep 𝓤 (A′ .lft κ₃ q₃) (sep 𝓤 (A′ .lft κ₄ q₄) (emp 𝓤))))
-
-          abbrev Own₁ : Fml
-          Own₁ = MutSlice (named 0) κ₁ u8 .own bs₁ (v₁ ∷ [])
-
-          abbrev Own₂ : Fml
-          Own₂ = MutSlice (named 1) κ₂ u8 .own bs₂ (v₂ ∷ [])
-
-          abbrev Own₃ : Fml
-          Own₃ = MutSlice (named 2) κ₃ u8 .own bs₃ (v₃ ∷ [])
-
-          abbrev Own₄ : Fml
-          Own₄ = ShrSlice (named 3) κ₄ u8 .own bs₄ (v₄ ∷ [])
-
-          abbrev Owns : SProp 𝓤
-          Owns = sep 𝓤 (sem 𝓤 H A′ Own₁) (sep 𝓤 (sem 𝓤 H A′ Own₂) (sep 𝓤 (sem 𝓤 H A′ Own₃) (sem 𝓤 H A′ Own₄)))
-
-          -- the last lists of the slices that are written
-          abbrev Bytes : Type 0
-          Bytes = List ℕ × (List ℕ × List ℕ)
-
-          abbrev Ends : Bytes → SProp 𝓤
-          Ends l = sep 𝓤 (sem 𝓤 H A′ (endsAs u8 (bs₁ .name) (bs₁ .now) (l .0))) (sep 𝓤 (sem 𝓤 H A′ (endsAs u8 (bs₂ .name) (bs₂ .now) (l .1 .0))) (sem 𝓤 H A′ (endsAs u8 (bs₃ .name) (bs₃ .now) (l .1 .1))))
-
-          abbrev Gave : Bytes → SProp 𝓤
-          Gave l = sep 𝓤 Tok (sep 𝓤 (Ends l) (sem 𝓤 H A′ Own₄))
-
-          exits : (r : A .Denot) (v : Val) → Is A r (v ∷ []) → (l : Bytes) → Said x c (bs₁ .now) (bs₂ .now) (bs₃ .now) (bs₄ .now) y r (l .0) (l .1 .0) (l .1 .1)
-              → ent 𝓤 (⋆ 𝓤 H A′ (raw (Gave l) ∷ [])) (Post v)
-          exits r v r-is l said =
-              qed W ((raw Tok ⊛ ((‵ (endsAs u8 (bs₁ .name) (bs₁ .now) (l .0)) ⊛ (‵ (endsAs u8 (bs₂ .name) (bs₂ .now) (l .1 .0)) ⊛ ‵ (endsAs u8 (bs₃ .name) (bs₃ .now) (l .1 .1)))) ⊛ ‵ Own₄)) ∷ []) ∵
-              split ! $ move ! (1 ∷ []) $ split ! $
-              split ! $ fsplit ! $ move ! (1 ∷ []) $ feqL ! (λ len₁. move ! (1 ∷ []) $
-              split ! $ fsplit ! $ move ! (1 ∷ []) $ feqL ! (λ len₂. move ! (1 ∷ []) $
-              fsplit ! $ move ! (1 ∷ []) $ feqL ! (λ len₃.
-              suffices ! _ (ends-at 𝓤 H A′ own-ended stayed (own-clauses 𝓤) W (((κ₁, (κ₂, (κ₃, (κ₄, tt)))), (q₁, (q₂, (q₃, (q₄, tt)))), tt, (x, (c, (bs₁, (bs₂, (bs₃, (bs₄, (y, tt))))))), vals), tt) v r (FN .r .last x, (FC .r .last c, (l .0, (l .1 .0, (l .1 .1, (tt, (q .last y, tt))))))) (tt, (tt, (len₁, (len₂, (len₃, (tt, (tt, tt)))))))) $ says ! said $
-              move ! (4 ∷ []) $ frame ! $
-              nothing ! $ owned ! Q (Is Q) (q .makes 𝓤 H A′ W) y _ y-is $ fjoin ! $ move ! (4 ∷ 0 ∷ []) $ fjoin ! $ move ! (1 ∷ 0 ∷ []) $ fjoin ! $ move ! (1 ∷ 0 ∷ []) $ fjoin ! $ move ! (1 ∷ 0 ∷ []) $ fjoin ! $
-              owned ! C (Is C) (FC .r .makes 𝓤 H A′ W) c _ c-is $ fjoin ! $ owned ! N (Is N) (FN .r .makes 𝓤 H A′ W) x _ x-is $ fjoin ! $ frame ! $
-              owned ! A (Is A) (a .makes 𝓤 H A′ W) r _ r-is $ done !)))
-
-          -- while the tables at bn and bc are lent
-          module _ (bn ν : ℕ) (δ : GName) (bc μ : ℕ) (ε : GName) where
-            abbrev OwnN : Fml
-            OwnN = MutSlice (named 0) (ν ∷ []) N .own (refAt bn 0 (equal N FN x) δ) (sliceAt bn 0 (equal N FN x) ∷ [])
-
-            abbrev OwnC : Fml
-            OwnC = MutSlice (named 0) (μ ∷ []) C .own (refAt bc 0 (equal C FC c) ε) (sliceAt bc 0 (equal C FC c) ∷ [])
-
-            abbrev Toks : SProp 𝓤
-            Toks = sep 𝓤 (A′ .lft (ν ∷ []) fullShare) (sep 𝓤 (A′ .lft (μ ∷ []) fullShare) Tok)
-
-            abbrev All : SProp 𝓤
-            All = sep 𝓤 Toks (sep 𝓤 (sem 𝓤 H A′ OwnN) (sep 𝓤 (sem 𝓤 H A′ OwnC) Owns))
-
-            abbrev Lists : Type 0
-            Lists = List (N .Denot) × (List (C .Denot) × Bytes)
-
-            abbrev Last : Lists → SProp 𝓤
-            Last l = sep 𝓤 (sem 𝓤 H A′ (endsAs N δ (equal N FN x) (l .0))) (sep 𝓤 (sem 𝓤 H A′ (endsAs C ε (equal C FC c) (l .1 .0))) (Ends (l .1 .1)))
-
-            abbrev Answered : Val → Lists → Type 0
-            Answered w l = Got A (λ r. Stepped (equal N FN x) (equal C FC c) (bs₁ .now) (bs₂ .now) (bs₃ .now) (bs₄ .now) y r (l .0) (l .1 .0) (l .1 .1 .0) (l .1 .1 .1 .0) (l .1 .1 .1 .1)) w
-
-            abbrev After : Val → SProp 𝓤
-            After w = H .⇛ (ex 𝓤 (λ (l : Lists). sep 𝓤 (sep 𝓤 Toks (sep 𝓤 (Last l) (sem 𝓤 H A′ Own₄))) (fact 𝓤 (Answered w l))))
-
-            steps : (C′ : Calls 𝓤 H) → FmC 𝓤 H (W .laws) C′ → Triple 𝓤 (C′ #step) (Entry 𝓤 H A′)
-                → ent 𝓤 All (C′ #step (sliceAt bn 0 (equal N FN x) ∷ sliceAt bc 0 (equal C FC c) ∷ v₁ ∷ v₂ ∷ v₃ ∷ v₄ ∷ vq ∷ []) After)
-            steps C′ fm known = calls-given 𝓤 H A′ W C′ fm (Entry 𝓤 H A′) known
-                (((ν ∷ [], (μ ∷ [], (κ₁, (κ₂, (κ₃, (κ₄, tt)))))), (fullShare, (fullShare, (q₁, (q₂, (q₃, (q₄, tt)))))), tt, (refAt bn 0 (equal N FN x) δ, (refAt bc 0 (equal C FC c) ε, (bs₁, (bs₂, (bs₃, (bs₄, (y, tt))))))), (sliceAt bn 0 (equal N FN x) ∷ [], (sliceAt bc 0 (equal C FC c) ∷ [], (v₁ ∷ [], (v₂ ∷ [], (v₃ ∷ [], (v₄ ∷ [], (vq ∷ [], tt)))))))), tt) All (sem 𝓤 H A′ Own₄) _
-                (qed W ((raw Toks ⊛ (‵ OwnN ⊛ (‵ OwnC ⊛ (‵ Own₁ ⊛ (‵ Own₂ ⊛ (‵ Own₃ ⊛ ‵ Own₄)))))) ∷ []) ∵ split ! $ move ! (1 ∷ []) $ split ! $ move ! (1 ∷ []) $ split ! $ move ! (1 ∷ []) $ split ! $ move ! (1 ∷ []) $ split ! $ move ! (1 ∷ []) $ split ! $ move ! (1 ∷ []) $
-                use1 W (‵ Own₄ ⊛ ‵ Own₄) (shr-slice-copy 𝓤 H A′ W (named 3) κ₄ u8 .twice bs₄ (v₄ ∷ [])) $ split ! $
-                nothing ! $ owned ! Q (Is Q) (q .makes 𝓤 H A′ W) y _ y-is $ fjoin ! $ move ! (1 ∷ 0 ∷ []) $ fjoin ! $ move ! (2 ∷ 0 ∷ []) $ fjoin ! $ move ! (2 ∷ 0 ∷ []) $ fjoin ! $ move ! (2 ∷ 0 ∷ []) $ fjoin ! $ move ! (2 ∷ 0 ∷ []) $ fjoin ! $ move ! (2 ∷ 0 ∷ []) $ fjoin ! $
-                move ! (2 ∷ 0 ∷ []) $ join ! $ nothing ! $ move ! (1 ∷ 0 ∷ []) $ join ! $ frame ! $ done !)
-                (λ w. gives 𝓤 H A′ W A Toks (sem 𝓤 H A′ Own₄) Last (λ l r. Stepped (equal N FN x) (equal C FC c) (bs₁ .now) (bs₂ .now) (bs₃ .now) (bs₄ .now) y r (l .0) (l .1 .0) (l .1 .1 .0) (l .1 .1 .1 .0) (l .1 .1 .1 .1))
-                (ensured 𝓤 H A′ entry-ended (entry-clauses 𝓤) (ν ∷ [], (μ ∷ [], (κ₁, (κ₂, (κ₃, (κ₄, tt)))))) (refAt bn 0 (equal N FN x) δ, (refAt bc 0 (equal C FC c) ε, (bs₁, (bs₂, (bs₃, (bs₄, (y, tt))))))) tt) w
-                (λ r. qed W (some (λ (ws : Lasts entry-ended (ν ∷ [], (μ ∷ [], (κ₁, (κ₂, (κ₃, (κ₄, tt)))))) (refAt bn 0 (equal N FN x) δ, (refAt bc 0 (equal C FC c) ε, (bs₁, (bs₂, (bs₃, (bs₄, (y, tt)))))))). ‵ (lasts entry-ended (ν ∷ [], (μ ∷ [], (κ₁, (κ₂, (κ₃, (κ₄, tt)))))) (refAt bn 0 (equal N FN x) δ, (refAt bc 0 (equal C FC c) ε, (bs₁, (bs₂, (bs₃, (bs₄, (y, tt))))))) ws) ⊛ raw (fact 𝓤 (Stepped (equal N FN x) (equal C FC c) (bs₁ .now) (bs₂ .now) (bs₃ .now) (bs₄ .now) y r (ws .0) (ws .1 .0) (ws .1 .1 .0) (ws .1 .1 .1 .0) (ws .1 .1 .1 .1 .0)))) ∷ []) ∵
-                pick ! (λ ws. split ! $ fsplit ! $ move ! (1 ∷ []) $ fsplit ! $ move ! (1 ∷ []) $ fsplit ! $ move ! (1 ∷ []) $ fsplit ! $ move ! (1 ∷ []) $ fsplit ! $ move ! (2 ∷ 0 ∷ []) $ join ! $ move ! (2 ∷ 0 ∷ []) $ join ! $ move ! (2 ∷ 0 ∷ []) $ join ! $ move ! (2 ∷ 0 ∷ []) $ join ! $ move ! (0 ∷ 2 ∷ []) $
-                show ! (λ (l : Lists). sep 𝓤 (Last l) (fact 𝓤 (Stepped (equal N FN x) (equal C FC c) (bs₁ .now) (bs₂ .now) (bs₃ .now) (bs₄ .now) y r (l .0) (l .1 .0) (l .1 .1 .0) (l .1 .1 .1 .0) (l .1 .1 .1 .1)))) ((ws .0, (ws .1 .0, (ws .1 .1 .0, (ws .1 .1 .1 .0, ws .1 .1 .1 .1 .0))))) $
-                frame ! $ keep ! (0 ∷ []) $ done !)))
-
-          walk : (C′ : Calls 𝓤 H) (Λ : Loops 𝓤 H) (fm : FmC 𝓤 H (W .laws) C′) → Triple 𝓤 (C′ #step) (Entry 𝓤 H A′)
-              → Room u8 (length (bs₁ .now)) → Room u8 (length (bs₂ .now)) → Room u8 (length (bs₃ .now)) → Room u8 (length (bs₄ .now))
-              → ent 𝓤 (onEntry 𝓤 H A′ (own-ended .signature) (κ₁, (κ₂, (κ₃, (κ₄, tt)))) (q₁, (q₂, (q₃, (q₄, tt)))) (x, (c, (bs₁, (bs₂, (bs₃, (bs₄, (y, tt))))))) vals)
-              (WpFn 𝓤 H C′ Λ (function #step) (vx ∷ vc ∷ v₁ ∷ v₂ ∷ v₃ ∷ v₄ ∷ vq ∷ []) Post)
-          walk C′ Λ fm known room₁ room₂ room₃ room₄ =
-              qed W (raw Tok ∷ ‵ (owns (N ∷ C ∷ MutSlice (named 0) κ₁ u8 ∷ MutSlice (named 1) κ₂ u8 ∷ MutSlice (named 2) κ₃ u8 ∷ ShrSlice (named 3) κ₄ u8 ∷ Q ∷ []) (x, (c, (bs₁, (bs₂, (bs₃, (bs₄, (y, tt))))))) vals) ∷ []) ∵
-              move ! (1 ∷ []) $ fsplit ! $ drop ! $ fsplit ! $ drop ! $ fsplit ! $ move ! (1 ∷ []) $ fsplit ! $ move ! (1 ∷ []) $ fsplit ! $ move ! (1 ∷ []) $ fsplit ! $ move ! (1 ∷ []) $ drop ! $
-              move ! (1 ∷ 0 ∷ []) $ join ! $ move ! (1 ∷ 0 ∷ []) $ join ! $ move ! (1 ∷ 0 ∷ []) $ join ! $ use1 W (raw Owns) (id⊢ 𝓤 _) $
-              enter ! C′ Λ (function #step) (vx ∷ vc ∷ v₁ ∷ v₂ ∷ v₃ ∷ v₄ ∷ vq ∷ []) Post $
+        walk : (C′ : Calls 𝓤 H) (Λ : Loops 𝓤 H) (fm : FmC 𝓤 H (W .laws) C′) → Triple 𝓤 (C′ #step) (Entry N C Q A Stepped 𝓤 H A′)
+            → Room u8 (length (list s₁)) → Room u8 (length (list s₂)) → Room u8 (length (list s₃)) → Room u8 (length (list s₄))
+            → ent 𝓤 (onEntry 𝓤 H A′ (own-ended .signature) (s₁ .κ, (s₂ .κ, (s₃ .κ, (s₄ .κ, tt)))) (s₁ .q, (s₂ .q, (s₃ .q, (s₄ .q, tt)))) (x, (c, (s₁ .s, (s₂ .s, (s₃ .s, (s₄ .s, (y, tt))))))) vals)
+            (WpFn 𝓤 H C′ Λ (function #step) passes Post)
+        walk C′ Λ fm known room₁ room₂ room₃ room₄ =
+            qed W ((‵ (Token s₁) ⊛ (‵ (Token s₂) ⊛ (‵ (Token s₃) ⊛ (‵ (Token s₄) ⊛ ‵ ftrue)))) ∷
+            ‵ (owns (N ∷ C ∷ MutSlice (named 0) (s₁ .κ) u8 ∷ MutSlice (named 1) (s₂ .κ) u8 ∷ MutSlice (named 2) (s₃ .κ) u8 ∷ ShrSlice (named 3) (s₄ .κ) u8 ∷ Q ∷ []) (x, (c, (s₁ .s, (s₂ .s, (s₃ .s, (s₄ .s, (y, tt))))))) vals) ∷ []) ∵
+            split ! $ move ! (1 ∷ []) $ split ! $ move ! (1 ∷ []) $ split ! $ move ! (1 ∷ []) $ split ! $ move ! (1 ∷ []) $ drop ! $ move ! (4 ∷ []) $ fsplit ! $ drop ! $ fsplit ! $ drop ! $ fsplit ! $ move ! (1 ∷ []) $ fsplit ! $ move ! (1 ∷ []) $ fsplit ! $ move ! (1 ∷ []) $ fsplit ! $ move ! (1 ∷ []) $ drop ! $ move ! (7 ∷ 3 ∷ 6 ∷ 2 ∷ 5 ∷ 1 ∷ 4 ∷ 0 ∷ []) $
+            enter ! C′ Λ (function #step) passes Post $
               alloc1 ! (λ l₀. alloc1 ! (λ l₁. alloc1 ! (λ l₂. alloc1 ! (λ l₃. alloc1 ! (λ l₄. alloc1 ! (λ l₅. alloc1 ! (λ l₆. alloc1 ! (λ l₇. alloc1 ! (λ l₈. alloc1 ! (λ l₉. alloc1 ! (λ l₁₀. alloc1 ! (λ l₁₁. alloc1 ! (λ l₁₂. alloc1 ! (λ l₁₃. alloc1 ! (λ l₁₄. alloc1 ! (λ l₁₅. alloc1 ! (λ l₁₆. alloc1 ! (λ l₁₇. alloc1 ! (λ l₁₈. alloc1 ! (λ l₁₉. alloc0 ! $ params1 ! $
               pass1 ! (init ! 36 refl (FN .r .typed 𝓤 H A′ W x _ x-is)) $ pass1 ! (init ! 34 refl (FC .r .typed 𝓤 H A′ W c _ c-is)) $ pass1 ! (init ! 32 refl (tt, (tt, (record { fits = room₁ .0 }, tt)))) $ pass1 ! (init ! 30 refl (tt, (tt, (record { fits = room₂ .0 }, tt)))) $ pass1 ! (init ! 28 refl (tt, (tt, (record { fits = room₃ .0 }, tt)))) $ pass1 ! (init ! 26 refl (tt, (tt, (record { fits = room₄ .0 }, tt)))) $ pass1 ! (init ! 24 refl (q .typed 𝓤 H A′ W y _ y-is)) $ pass0 ! $
-              -- [the locals from _19: 0 to _0: 38; what the slices own; the tokens]
               assigns ! (fills ! (FN .n) (load ! (from ! (stop !)) (look ! 36 refl))) (from ! (stop !)) (init ! 22 refl (array-ty N FN 𝓤 H A′ W x _ x-is)) $
               assigns ! (fills ! (FC .n) (load ! (from ! (stop !)) (look ! 34 refl))) (from ! (stop !)) (init ! 20 refl (array-ty C FC 𝓤 H A′ W c _ c-is)) $
               assigns ! (addr ! (from ! (stop !))) (from ! (stop !)) (init ! 18 refl (tt, tt)) $
@@ -346,40 +247,38 @@ module _ (N C Q A : RattleType) (FN : Table N) (FC : Table C) (q : Rec Q) (a : R
               assigns ! (addr ! (from ! (stop !))) (from ! (stop !)) (init ! 14 refl (tt, tt)) $
               assigns ! (agg ! (and-then ! (load ! (from ! (stop !)) (look ! 14 refl)) (and-then ! (lit ! (FC .count)) (no-more !)))) (from ! (stop !)) (init ! 12 refl (tt, (tt, (record { fits = lit< (FC .count) }, tt)))) $
               assigns ! (addr ! (from ! (fld ! refl (hop ! (look-in ! 32 (sub ! 0 refl (whole !))) (stop !))))) (from ! (stop !)) (init ! 10 refl (tt, tt)) $
-              assigns ! (agg ! (and-then ! (load ! (from ! (stop !)) (look ! 10 refl)) (and-then ! (load ! (from ! (fld ! refl (stop !))) (look-in ! 32 (sub ! 1 refl (whole !)))) (no-more !))))
-              (from ! (stop !)) (init ! 8 refl (tt, (tt, (record { fits = room₁ .0 }, tt)))) $
+              assigns ! (agg ! (and-then ! (load ! (from ! (stop !)) (look ! 10 refl)) (and-then ! (load ! (from ! (fld ! refl (stop !))) (look-in ! 32 (sub ! 1 refl (whole !)))) (no-more !)))) (from ! (stop !)) (init ! 8 refl (tt, (tt, (record { fits = room₁ .0 }, tt)))) $
               assigns ! (addr ! (from ! (fld ! refl (hop ! (look-in ! 30 (sub ! 0 refl (whole !))) (stop !))))) (from ! (stop !)) (init ! 6 refl (tt, tt)) $
-              assigns ! (agg ! (and-then ! (load ! (from ! (stop !)) (look ! 6 refl)) (and-then ! (load ! (from ! (fld ! refl (stop !))) (look-in ! 30 (sub ! 1 refl (whole !)))) (no-more !))))
-              (from ! (stop !)) (init ! 4 refl (tt, (tt, (record { fits = room₂ .0 }, tt)))) $
+              assigns ! (agg ! (and-then ! (load ! (from ! (stop !)) (look ! 6 refl)) (and-then ! (load ! (from ! (fld ! refl (stop !))) (look-in ! 30 (sub ! 1 refl (whole !)))) (no-more !)))) (from ! (stop !)) (init ! 4 refl (tt, (tt, (record { fits = room₂ .0 }, tt)))) $
               assigns ! (addr ! (from ! (fld ! refl (hop ! (look-in ! 28 (sub ! 0 refl (whole !))) (stop !))))) (from ! (stop !)) (init ! 2 refl (tt, tt)) $
-              assigns ! (agg ! (and-then ! (load ! (from ! (stop !)) (look ! 2 refl)) (and-then ! (load ! (from ! (fld ! refl (stop !))) (look-in ! 28 (sub ! 1 refl (whole !)))) (no-more !))))
-              (from ! (stop !)) (init ! 0 refl (tt, (tt, (record { fits = room₃ .0 }, tt)))) $
+              assigns ! (agg ! (and-then ! (load ! (from ! (stop !)) (look ! 2 refl)) (and-then ! (load ! (from ! (fld ! refl (stop !))) (look-in ! 28 (sub ! 1 refl (whole !)))) (no-more !)))) (from ! (stop !)) (init ! 0 refl (tt, (tt, (record { fits = room₃ .0 }, tt)))) $
               rewrite ! 16 (λ (k : ℕ). ‵ (fat fullShare (records N) l₁₁ 0 (sliceVal (l₈, 0) k))) (sym (length-replicate (FN .n) x)) refl $
               rewrite ! 12 (λ (k : ℕ). ‵ (fat fullShare (records C) l₁₃ 0 (sliceVal (l₉, 0) k))) (sym (length-replicate (FC .n) c)) refl $
-              move ! (20 ∷ 40 ∷ 41 ∷ 22 ∷ []) $ gives-out C FC ! tt c vc c-is l₉ (λ μ ε. move ! (5 ∷ []) $ gives-out N FN ! tt x vx x-is l₈ (λ ν δ.
-              -- [token, slice and lender's part of the nodes; of the clients; what the other slices own; their tokens; the locals]
-              move ! (4 ∷ 6 ∷ []) $ join ! $ move ! (2 ∷ 0 ∷ []) $ join ! $ move ! (3 ∷ 5 ∷ []) $ join ! $ move ! (2 ∷ 0 ∷ []) $ join ! $ join ! $ use1 W (raw (All l₈ ν δ l₉ μ ε)) (id⊢ 𝓤 _) $
-              calls-from ! fm (raw (All l₈ ν δ l₉ μ ε)) (sliceAt l₈ 0 (equal N FN x) ∷ sliceAt l₉ 0 (equal C FC c) ∷ v₁ ∷ v₂ ∷ v₃ ∷ v₄ ∷ vq ∷ []) (After l₈ ν δ l₉ μ ε) (steps l₈ ν δ l₉ μ ε C′ fm known)
-              (and-then ! (load ! (from ! (stop !)) (look ! 19 refl)) (and-then ! (load ! (from ! (stop !)) (look ! 15 refl)) (and-then ! (load ! (from ! (stop !)) (look ! 11 refl)) (and-then ! (load ! (from ! (stop !)) (look ! 7 refl)) (and-then ! (load ! (from ! (stop !)) (look ! 3 refl)) (and-then ! (load ! (from ! (stop !)) (look ! 27 refl)) (and-then ! (load ! (from ! (stop !)) (look ! 25 refl)) (no-more !)))))))) (λ w.
-              use1 W (later (some (λ (l : Lists l₈ ν δ l₉ μ ε). ((‵ (flft (ν ∷ []) fullShare) ⊛ (‵ (flft (μ ∷ []) fullShare) ⊛ raw Tok)) ⊛ ((‵ (endsAs N δ (equal N FN x) (l .0)) ⊛ (‵ (endsAs C ε (equal C FC c) (l .1 .0)) ⊛ raw (Ends (l .1 .1)))) ⊛ ‵ Own₄)) ⊛ raw (fact 𝓤 (Answered l₈ ν δ l₉ μ ε w l))))) (id⊢ 𝓤 _) $ await ! tt $ pick ! (λ l. split ! $ move ! (1 ∷ []) $
-              heard ! (Answered l₈ ν δ l₉ μ ε w l) (λ r. split ! $ split ! $ move ! (2 ∷ []) $ split ! $ split ! $ fsplit ! $ move ! (1 ∷ []) $ feqL ! (λ lenN.
-              move ! (3 ∷ 5 ∷ 0 ∷ []) $ takes-back N FN ! tt (l .0) l₈ ν δ $ move ! (1 ∷ []) $ split ! $ fsplit ! $ move ! (1 ∷ []) $ feqL ! (λ lenC.
-              move ! (4 ∷ []) $ split ! $ move ! (0 ∷ 6 ∷ 2 ∷ []) $ takes-back C FC ! tt (l .1 .0) l₉ μ ε $ move ! (2 ∷ 4 ∷ []) $ join ! $ move ! (2 ∷ 0 ∷ []) $ join ! $ use1 W (raw (Gave (l .1 .1))) (id⊢ 𝓤 _) $
-              -- [what is given back; room for the clients; room for the nodes; the locals, but those two]
-              land ! (from ! (stop !)) (init ! 39 refl (a .typed 𝓤 H A′ W (r .0) w (r .1 .0))) $ returns ! (look ! 39 refl) $
-              gone ! 39 refl refl $ gone ! 37 refl refl $ gone ! 35 refl refl $ gone ! 33 refl refl $ gone ! 31 refl refl $ gone ! 29 refl refl $ gone ! 27 refl refl $ gone ! 25 refl refl $
-              move ! (2 ∷ 24 ∷ []) $ unused ! 0 refl refl $ move ! (1 ∷ 22 ∷ []) $ unused ! 0 refl refl $
-              gone ! 19 refl refl $ gone ! 17 refl refl $ gone ! 15 refl refl $ gone ! 13 refl refl $ gone ! 11 refl refl $ gone ! 9 refl refl $ gone ! 7 refl refl $ gone ! 5 refl refl $ gone ! 3 refl refl $ gone ! 1 refl refl $ free0 ! $
-              by ! (exits (r .0) w (r .1 .0) (l .1 .1) (implied x c (bs₁ .now) (bs₂ .now) (bs₃ .now) (bs₄ .now) (l .1 .1 .0) (l .1 .1 .1 .0) (l .1 .1 .1 .1) y (r .0) (l .0) (l .1 .0) (lenN ∙ length-replicate (FN .n) x) (lenC ∙ length-replicate (FC .n) c) (r .1 .1))))))))))))))))))))))))))))))
+              move ! (20 ∷ []) $ gives-out C FC ! tt c _ c-is l₉ (λ μ ε. move ! (24 ∷ []) $ gives-out N FN ! tt x _ x-is l₈ (λ ν δ.
+              move ! (0 ∷ 1 ∷ 3 ∷ 4 ∷ 44 ∷ 45 ∷ 46 ∷ 47 ∷ 48 ∷ 49 ∷ 50 ∷ 51 ∷ []) $
+              enters N C Q A Stepped q (nodes-for l₈ ν δ) (clients-for l₉ μ ε) s₁ s₂ s₃ s₄ y ! fm known y-is
+              (and-then ! (load ! (from ! (stop !)) (look ! 19 refl)) (and-then ! (load ! (from ! (stop !)) (look ! 15 refl)) (and-then ! (load ! (from ! (stop !)) (look ! 11 refl)) (and-then ! (load ! (from ! (stop !)) (look ! 7 refl)) (and-then ! (load ! (from ! (stop !)) (look ! 3 refl)) (and-then ! (load ! (from ! (stop !)) (look ! 27 refl)) (and-then ! (load ! (from ! (stop !)) (look ! 25 refl)) (no-more !))))))))  (λ w z same r.
+              move ! (0 ∷ 12 ∷ 1 ∷ []) $ takes-back N FN ! tt (z .0) l₈ ν δ $ move ! (1 ∷ 11 ∷ 2 ∷ []) $ takes-back C FC ! tt (z .1 .0) l₉ μ ε $
+              move ! (2 ∷ 3 ∷ 4 ∷ 5 ∷ 6 ∷ 7 ∷ 8 ∷ 9 ∷ 0 ∷ 1 ∷ []) $ land ! (from ! (stop !)) (init ! 46 refl (a .typed 𝓤 H A′ W (r .0) w (r .1 .0))) $ returns ! (look ! 46 refl) $
+              gone ! 46 refl refl $ gone ! 44 refl refl $ gone ! 42 refl refl $ gone ! 40 refl refl $ gone ! 38 refl refl $ gone ! 36 refl refl $ gone ! 34 refl refl $ gone ! 32 refl refl $
+              move ! (9 ∷ 31 ∷ []) $ unused ! 0 refl refl $
+              move ! (8 ∷ 29 ∷ []) $ unused ! 0 refl refl $
+              gone ! 26 refl refl $ gone ! 24 refl refl $ gone ! 22 refl refl $ gone ! 20 refl refl $ gone ! 18 refl refl $ gone ! 16 refl refl $ gone ! 14 refl refl $ gone ! 12 refl refl $ gone ! 10 refl refl $ gone ! 8 refl refl $ free0 ! $
+              by ! (exits (r .0) w (r .1 .0) (z .1 .1) (same .1 .1) (implied x c (list s₁) (list s₂) (list s₃) (list s₄) (z .1 .1 .0) (z .1 .1 .1 .0) (z .1 .1 .1 .1) y (r .0) (z .0) (z .1 .0)
+              (same .0 ∙ length-replicate (FN .n) x) (same .1 .0 ∙ length-replicate (FC .n) c) (r .1 .1))))))))))))))))))))))))))
 
-        pub meets : (𝓣 : Tables 𝓤 H) → Triple 𝓤 (𝓣 .C #step) (Entry 𝓤 H A′)
-            → Meets 𝓤 H A′ (own-ended .signature) (WpFn 𝓤 H (𝓣 .C) (𝓣 .Λ) (function #step)) (closing 𝓤 H A′ own-ended (own-clauses 𝓤))
-        meets 𝓣 known =
-            walk-meets 𝓤 H A′ own-ended stayed W (goes-none 𝓤 H A′ W 4 (λ _. N) yes (λ _. FN .r .silent), (goes-none 𝓤 H A′ W 4 (λ _. C) yes (λ _. FC .r .silent), (goes-gave-slice 𝓤 H A′ W 4 0 tt (plain (λ _. u8)), (goes-gave-slice 𝓤 H A′ W 4 1 tt (plain (λ _. u8)), (goes-gave-slice 𝓤 H A′ W 4 2 tt (plain (λ _. u8)), (goes-none-slice 𝓤 H A′ W 4 (3 ∷ []) tt (plain (λ _. u8)) yes, (goes-none 𝓤 H A′ W 4 (λ _. Q) yes (λ _. q .silent), tt)))))))
-            (own-clauses 𝓤) (WpFn 𝓤 H (𝓣 .C) (𝓣 .Λ) (function #step)) (WpFn-mono 𝓤 H (W .laws) 𝓣 (function #step))
-            (walked 𝓤 H A′ own-ended stayed (own-clauses 𝓤) (WpFn 𝓤 H (𝓣 .C) (𝓣 .Λ) (function #step))
-            (λ κs. (λ x. FN .r .val x ∷ [], (λ c. FC .r .val c ∷ [], (slice-vals, (slice-vals, (slice-vals, (slice-vals, (λ y. q .val y ∷ [], tt))))))))
-            (λ κs. (FN .r .tells, (FC .r .tells, (mut-slice-tells (named 0) (κs .0) u8, (mut-slice-tells (named 1) (κs .1 .0) u8, (mut-slice-tells (named 2) (κs .1 .1 .0) u8, (shr-slice-tells (named 3) (κs .1 .1 .1 .0) u8, (q .tells, tt))))))))
-            (λ κs qs bounds a g are. via 𝓤 _ (fst∗ 𝓤 _ (emp 𝓤)) (walk (a .0) (a .1 .0) (κs .0) (qs .0) (a .1 .1 .0) (κs .1 .0) (qs .1 .0) (a .1 .1 .1 .0) (κs .1 .1 .0) (qs .1 .1 .0) (a .1 .1 .1 .1 .0) (κs .1 .1 .1 .0) (qs .1 .1 .1 .0) (a .1 .1 .1 .1 .1 .0) (a .1 .1 .1 .1 .1 .1 .0)
-            (are .0) (are .1 .0) (are .1 .1 .1 .1 .1 .1 .0) (𝓣 .C) (𝓣 .Λ) (fmOf 𝓤 H (W .laws) 𝓣) known
-            (are .1 .1 .0 .0 .1) (are .1 .1 .1 .0 .0 .1) (are .1 .1 .1 .1 .0 .0 .1) (are .1 .1 .1 .1 .1 .0 .0 .1))))
+      pub meets : (𝓣 : Tables 𝓤 H) → Triple 𝓤 (𝓣 .C #step) (Entry N C Q A Stepped 𝓤 H A′)
+          → Meets 𝓤 H A′ (own-ended .signature) (WpFn 𝓤 H (𝓣 .C) (𝓣 .Λ) (function #step)) (closing 𝓤 H A′ own-ended (own-clauses 𝓤))
+      meets 𝓣 known =
+          walk-meets 𝓤 H A′ own-ended stayed W (goes-none 𝓤 H A′ W 4 (λ _. N) yes (λ _. FN .r .silent), (goes-none 𝓤 H A′ W 4 (λ _. C) yes (λ _. FC .r .silent),
+          (goes-gave-slice 𝓤 H A′ W 4 0 tt (plain (λ _. u8)), (goes-gave-slice 𝓤 H A′ W 4 1 tt (plain (λ _. u8)), (goes-gave-slice 𝓤 H A′ W 4 2 tt (plain (λ _. u8)),
+          (goes-none-slice 𝓤 H A′ W 4 (3 ∷ []) tt (plain (λ _. u8)) yes, (goes-none 𝓤 H A′ W 4 (λ _. Q) yes (λ _. q .silent), tt)))))))
+          (own-clauses 𝓤) (WpFn 𝓤 H (𝓣 .C) (𝓣 .Λ) (function #step)) (WpFn-mono 𝓤 H (W .laws) 𝓣 (function #step))
+          (walked 𝓤 H A′ own-ended stayed (own-clauses 𝓤) (WpFn 𝓤 H (𝓣 .C) (𝓣 .Λ) (function #step))
+          (λ κs. (λ x. FN .r .val x ∷ [], (λ c. FC .r .val c ∷ [], (slice-vals, (slice-vals, (slice-vals, (slice-vals, (λ y. q .val y ∷ [], tt))))))))
+          (λ κs. (FN .r .tells, (FC .r .tells, (mut-slice-tells (named 0) (κs .0) u8, (mut-slice-tells (named 1) (κs .1 .0) u8, (mut-slice-tells (named 2) (κs .1 .1 .0) u8,
+          (shr-slice-tells (named 3) (κs .1 .1 .1 .0) u8, (q .tells, tt))))))))
+          (λ κs qs bounds a g are. via 𝓤 _ (fst∗ 𝓤 _ (emp 𝓤)) (walk (a .0) (a .1 .0) (record { κ = κs .0; q = qs .0; s = a .1 .1 .0 }) (record { κ = κs .1 .0; q = qs .1 .0; s = a .1 .1 .1 .0 })
+          (record { κ = κs .1 .1 .0; q = qs .1 .1 .0; s = a .1 .1 .1 .1 .0 }) (record { κ = κs .1 .1 .1 .0; q = qs .1 .1 .1 .0; s = a .1 .1 .1 .1 .1 .0 }) (a .1 .1 .1 .1 .1 .1 .0)
+          (are .0) (are .1 .0) (are .1 .1 .1 .1 .1 .1 .0) (𝓣 .C) (𝓣 .Λ) (fmOf 𝓤 H (W .laws) 𝓣) known
+          (are .1 .1 .0 .0 .1) (are .1 .1 .1 .0 .0 .1) (are .1 .1 .1 .1 .0 .0 .1) (are .1 .1 .1 .1 .1 .0 .0 .1))))
