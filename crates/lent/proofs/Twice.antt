@@ -7,7 +7,7 @@
 --     function     its MIR, over the types and the names of the two
 --     Implied      that the relations of the two imply f's
 --     meets        then the MIR meets its contract
-use mathlib.Core.Path.{_≡_, refl, sym, _∙_, subst}
+use mathlib.Core.Path.{refl, sym, _∙_, subst}
 use Prim.Native.Nat.{ℕ}
 use mathlib.Core.List.{[], _∷_, List}
 use lib.ListN.{length}
@@ -81,8 +81,19 @@ module _ (N C Q A : RattleType) (n : Rec N) (c : Rec C) (q : Rec Q) (a : Rec A) 
 
   module _ (First Second Said : Relation N C Q A) where
     abbrev stayed : Stays (entry-ended N C Q A Said .signature .params) (entry-ended N C Q A Said .kept)
-    stayed = (gave-slice (0 ∷ []) tt (plain (λ _. N)), (gave-slice (1 ∷ []) tt (plain (λ _. C)), (gave-slice (2 ∷ []) tt (plain (λ _. u8)), (gave-slice (3 ∷ []) tt (plain (λ _. u8)),
-        (gave-slice (4 ∷ []) tt (plain (λ _. u8)), (stay-none-slice (5 ∷ []) tt (plain (λ _. u8)) yes, (stay-none (λ _. Q) yes, tt)))))))
+    stayed = (
+      gave-slice (0 ∷ []) tt (plain (λ _. N)),
+      (
+        gave-slice (1 ∷ []) tt (plain (λ _. C)),
+        (
+          gave-slice (2 ∷ []) tt (plain (λ _. u8)),
+          (
+            gave-slice (3 ∷ []) tt (plain (λ _. u8)),
+            (gave-slice (4 ∷ []) tt (plain (λ _. u8)), (stay-none-slice (5 ∷ []) tt (plain (λ _. u8)) yes, (stay-none (λ _. Q) yes, tt))),
+          ),
+        ),
+      ),
+    )
 
     abbrev pub Implied : Type 0
     Implied = (ysN : List (N .Denot)) (ysC : List (C .Denot)) (b₁ b₂ b₃ b₄ : List ℕ) (y : Q .Denot) (r r′ : A .Denot) (z z′ : Lists N C Q A First)
@@ -96,8 +107,16 @@ module _ (N C Q A : RattleType) (n : Rec N) (c : Rec C) (q : Rec Q) (a : Rec A) 
         vals = (valOf sN ∷ [], (valOf sC ∷ [], (valOf s₁ ∷ [], (valOf s₂ ∷ [], (valOf s₃ ∷ [], (valOf s₄ ∷ [], (q .val y ∷ [], tt)))))))
 
         abbrev Post : Val → SProp 𝓤
-        Post = walkOf 𝓤 H A′ (entry-ended N C Q A Said) stayed (entry-clauses N C Q A Said 𝓤) .post (((sN .κ, (sC .κ, (s₁ .κ, (s₂ .κ, (s₃ .κ, (s₄ .κ, tt)))))),
-            (sN .q, (sC .q, (s₁ .q, (s₂ .q, (s₃ .q, (s₄ .q, tt)))))), tt, (sN .s, (sC .s, (s₁ .s, (s₂ .s, (s₃ .s, (s₄ .s, (y, tt))))))), vals), tt)
+        Post = walkOf 𝓤 H A′ (entry-ended N C Q A Said) stayed (entry-clauses N C Q A Said 𝓤) .post (
+          (
+            (sN .κ, (sC .κ, (s₁ .κ, (s₂ .κ, (s₃ .κ, (s₄ .κ, tt)))))),
+            (sN .q, (sC .q, (s₁ .q, (s₂ .q, (s₃ .q, (s₄ .q, tt)))))),
+            tt,
+            (sN .s, (sC .s, (s₁ .s, (s₂ .s, (s₃ .s, (s₄ .s, (y, tt))))))),
+            vals,
+          ),
+          tt,
+        )
 
         exits : (r : A .Denot) (v : Val) → Is A r (v ∷ []) → (z : Lists N C Q A Said) → Same N C Q A Said q sN sC s₁ s₂ s₃ s₄ y z
             → Said (list sN) (list sC) (list s₁) (list s₂) (list s₃) (list s₄) y r (z .0) (z .1 .0) (z .1 .1 .0) (z .1 .1 .1 .0) (z .1 .1 .1 .1)
@@ -106,8 +125,16 @@ module _ (N C Q A : RattleType) (n : Rec N) (c : Rec C) (q : Rec Q) (a : Rec A) 
         exits r v r-is z same said =
             qed W (‵ (Token sN) ∷ ‵ (Left sN (z .0)) ∷ ‵ (Token sC) ∷ ‵ (Left sC (z .1 .0)) ∷ ‵ (Token s₁) ∷ ‵ (Left s₁ (z .1 .1 .0)) ∷ ‵ (Token s₂) ∷ ‵ (Left s₂ (z .1 .1 .1 .0)) ∷
             ‵ (Token s₃) ∷ ‵ (Left s₃ (z .1 .1 .1 .1)) ∷ ‵ (Token s₄) ∷ ‵ (Shr s₄) ∷ []) ∵
-            suffices ! _ (ends-at 𝓤 H A′ (entry-ended N C Q A Said) stayed (entry-clauses N C Q A Said 𝓤) W (((sN .κ, (sC .κ, (s₁ .κ, (s₂ .κ, (s₃ .κ, (s₄ .κ, tt)))))),
-            (sN .q, (sC .q, (s₁ .q, (s₂ .q, (s₃ .q, (s₄ .q, tt)))))), tt, (sN .s, (sC .s, (s₁ .s, (s₂ .s, (s₃ .s, (s₄ .s, (y, tt))))))), vals), tt) v r (z .0, (z .1 .0, (z .1 .1 .0, (z .1 .1 .1 .0, (z .1 .1 .1 .1, (tt, (q .last y, tt)))))))
+            suffices ! _ (ends-at 𝓤 H A′ (entry-ended N C Q A Said) stayed (entry-clauses N C Q A Said 𝓤) W (
+              (
+                (sN .κ, (sC .κ, (s₁ .κ, (s₂ .κ, (s₃ .κ, (s₄ .κ, tt)))))),
+                (sN .q, (sC .q, (s₁ .q, (s₂ .q, (s₃ .q, (s₄ .q, tt)))))),
+                tt,
+                (sN .s, (sC .s, (s₁ .s, (s₂ .s, (s₃ .s, (s₄ .s, (y, tt))))))),
+                vals,
+              ),
+              tt,
+            ) v r (z .0, (z .1 .0, (z .1 .1 .0, (z .1 .1 .1 .0, (z .1 .1 .1 .1, (tt, (q .last y, tt)))))))
             (same .0, (same .1 .0, (same .1 .1 .0, (same .1 .1 .1 .0, (same .1 .1 .1 .1, (tt, (tt, tt)))))))) $ says ! said $
             nothing ! $ move ! (11 ∷ 0 ∷ []) $ join ! $ move ! (9 ∷ 0 ∷ []) $ join ! $ move ! (7 ∷ 0 ∷ []) $ join ! $ move ! (5 ∷ 0 ∷ []) $ join ! $ move ! (3 ∷ 0 ∷ []) $ join ! $ move ! (1 ∷ 0 ∷ []) $ join ! $ frame ! $ nothing ! $ owned ! Q (Is Q) (q .makes 𝓤 H A′ W) y _ y-is $ fjoin ! $ move ! (6 ∷ 0 ∷ []) $ fjoin ! $ move ! (5 ∷ 0 ∷ []) $ fjoin ! $ move ! (4 ∷ 0 ∷ []) $ fjoin ! $ move ! (3 ∷ 0 ∷ []) $ fjoin ! $ move ! (2 ∷ 0 ∷ []) $ fjoin ! $ move ! (1 ∷ 0 ∷ []) $ fjoin ! $ frame ! $ owned ! A (Is A) (a .makes 𝓤 H A′ W) r _ r-is $ done !
 
@@ -137,7 +164,7 @@ module _ (N C Q A : RattleType) (n : Rec N) (c : Rec C) (q : Rec Q) (a : Rec A) 
             move ! (58 ∷ 59 ∷ []) $ again ! tt sN roomN (λ νN δN. move ! (61 ∷ 62 ∷ []) $ again ! tt sC roomC (λ νC δC. move ! (64 ∷ 65 ∷ []) $ again ! tt s₁ room₁ (λ ν₁ δ₁. move ! (67 ∷ 68 ∷ []) $ again ! tt s₂ room₂ (λ ν₂ δ₂. move ! (70 ∷ 71 ∷ []) $ again ! tt s₃ room₃ (λ ν₃ δ₃.
             move ! (12 ∷ 13 ∷ 9 ∷ 10 ∷ 6 ∷ 7 ∷ 3 ∷ 4 ∷ 0 ∷ 1 ∷ 73 ∷ 74 ∷ []) $
             enters N C Q A First q (for sN νN δN) (for sC νC δC) (for s₁ ν₁ δ₁) (for s₂ ν₂ δ₂) (for s₃ ν₃ δ₃) s₄ y ! fm first y-is
-            (and-then ! (load ! (from ! (stop !)) (look ! 42 refl)) (and-then ! (load ! (from ! (stop !)) (look ! 38 refl)) (and-then ! (load ! (from ! (stop !)) (look ! 34 refl)) (and-then ! (load ! (from ! (stop !)) (look ! 30 refl)) (and-then ! (load ! (from ! (stop !)) (look ! 26 refl)) (and-then ! (load ! (from ! (stop !)) (look ! 50 refl)) (and-then ! (load ! (from ! (stop !)) (look ! 48 refl)) (no-more !))))))))  (λ v z same r.
+            (and-then ! (load ! (from ! (stop !)) (look ! 42 refl)) (and-then ! (load ! (from ! (stop !)) (look ! 38 refl)) (and-then ! (load ! (from ! (stop !)) (look ! 34 refl)) (and-then ! (load ! (from ! (stop !)) (look ! 30 refl)) (and-then ! (load ! (from ! (stop !)) (look ! 26 refl)) (and-then ! (load ! (from ! (stop !)) (look ! 50 refl)) (and-then ! (load ! (from ! (stop !)) (look ! 48 refl)) (no-more !)))))))) (λ v z same r.
             move ! (0 ∷ 1 ∷ 16 ∷ []) $ back ! tt sN roomN νN δN (z .0) (same .0) $
             move ! (2 ∷ 3 ∷ 15 ∷ []) $ back ! tt sC roomC νC δC (z .1 .0) (same .1 .0) $
             move ! (4 ∷ 5 ∷ 14 ∷ []) $ back ! tt s₁ room₁ ν₁ δ₁ (z .1 .1 .0) (same .1 .1 .0) $
@@ -161,7 +188,7 @@ module _ (N C Q A : RattleType) (n : Rec N) (c : Rec C) (q : Rec Q) (a : Rec A) 
             assigns ! (agg ! (and-then ! (load ! (from ! (stop !)) (look ! 14 refl)) (and-then ! (load ! (from ! (fld ! refl (stop !))) (look-in ! 58 (sub ! 1 refl (whole !)))) (no-more !)))) (from ! (stop !)) (init ! 12 refl (tt, (tt, (record { fits = subst (Room u8) (sym (same .1 .1 .1 .1)) room₃ .0 }, tt)))) $
             move ! (8 ∷ 9 ∷ 6 ∷ 7 ∷ 4 ∷ 5 ∷ 2 ∷ 3 ∷ 0 ∷ 1 ∷ 10 ∷ 11 ∷ []) $
             enters N C Q A Second q (at sN (z .0)) (at sC (z .1 .0)) (at s₁ (z .1 .1 .0)) (at s₂ (z .1 .1 .1 .0)) (at s₃ (z .1 .1 .1 .1)) s₄ y ! fm second y-is
-            (and-then ! (load ! (from ! (stop !)) (look ! 17 refl)) (and-then ! (load ! (from ! (stop !)) (look ! 13 refl)) (and-then ! (load ! (from ! (stop !)) (look ! 9 refl)) (and-then ! (load ! (from ! (stop !)) (look ! 5 refl)) (and-then ! (load ! (from ! (stop !)) (look ! 1 refl)) (and-then ! (load ! (from ! (stop !)) (look ! 45 refl)) (and-then ! (load ! (from ! (stop !)) (look ! 43 refl)) (no-more !))))))))  (λ w z′ same′ r′.
+            (and-then ! (load ! (from ! (stop !)) (look ! 17 refl)) (and-then ! (load ! (from ! (stop !)) (look ! 13 refl)) (and-then ! (load ! (from ! (stop !)) (look ! 9 refl)) (and-then ! (load ! (from ! (stop !)) (look ! 5 refl)) (and-then ! (load ! (from ! (stop !)) (look ! 1 refl)) (and-then ! (load ! (from ! (stop !)) (look ! 45 refl)) (and-then ! (load ! (from ! (stop !)) (look ! 43 refl)) (no-more !)))))))) (λ w z′ same′ r′.
             land ! (from ! (stop !)) (init ! 68 refl (a .typed 𝓤 H A′ W (r′ .0) w (r′ .1 .0))) $ returns ! (look ! 68 refl) $
             gone ! 68 refl refl $ gone ! 66 refl refl $ gone ! 64 refl refl $ gone ! 62 refl refl $ gone ! 60 refl refl $ gone ! 58 refl refl $ gone ! 56 refl refl $ gone ! 54 refl refl $ gone ! 52 refl refl $ gone ! 50 refl refl $ gone ! 48 refl refl $ gone ! 46 refl refl $ gone ! 44 refl refl $ gone ! 42 refl refl $ gone ! 40 refl refl $ gone ! 38 refl refl $ gone ! 36 refl refl $ gone ! 34 refl refl $ gone ! 32 refl refl $ gone ! 30 refl refl $ gone ! 28 refl refl $ gone ! 26 refl refl $ gone ! 24 refl refl $ gone ! 22 refl refl $ gone ! 20 refl refl $ gone ! 18 refl refl $ gone ! 16 refl refl $ gone ! 14 refl refl $ gone ! 12 refl refl $ free0 ! $
             by ! (exits (r′ .0) w (r′ .1 .0) z′ (same′ .0 ∙ same .0, (same′ .1 .0 ∙ same .1 .0, (same′ .1 .1 .0 ∙ same .1 .1 .0, (same′ .1 .1 .1 .0 ∙ same .1 .1 .1 .0, (same′ .1 .1 .1 .1 ∙ same .1 .1 .1 .1)))))
@@ -170,14 +197,38 @@ module _ (N C Q A : RattleType) (n : Rec N) (c : Rec C) (q : Rec Q) (a : Rec A) 
       pub meets : (𝓣 : Tables 𝓤 H) → Triple 𝓤 (𝓣 .C #first) (Entry N C Q A First 𝓤 H A′) → Triple 𝓤 (𝓣 .C #second) (Entry N C Q A Second 𝓤 H A′)
           → Meets 𝓤 H A′ (entry-ended N C Q A Said .signature) (WpFn 𝓤 H (𝓣 .C) (𝓣 .Λ) (function #first #second)) (closing 𝓤 H A′ (entry-ended N C Q A Said) (entry-clauses N C Q A Said 𝓤))
       meets 𝓣 first second =
-          walk-meets 𝓤 H A′ (entry-ended N C Q A Said) stayed W (goes-gave-slice 𝓤 H A′ W 6 0 tt (plain (λ _. N)), (goes-gave-slice 𝓤 H A′ W 6 1 tt (plain (λ _. C)),
-          (goes-gave-slice 𝓤 H A′ W 6 2 tt (plain (λ _. u8)), (goes-gave-slice 𝓤 H A′ W 6 3 tt (plain (λ _. u8)), (goes-gave-slice 𝓤 H A′ W 6 4 tt (plain (λ _. u8)),
-          (goes-none-slice 𝓤 H A′ W 6 (5 ∷ []) tt (plain (λ _. u8)) yes, (goes-none 𝓤 H A′ W 6 (λ _. Q) yes (λ _. q .silent), tt)))))))
+          walk-meets 𝓤 H A′ (entry-ended N C Q A Said) stayed W (
+            goes-gave-slice 𝓤 H A′ W 6 0 tt (plain (λ _. N)),
+            (
+              goes-gave-slice 𝓤 H A′ W 6 1 tt (plain (λ _. C)),
+              (
+                goes-gave-slice 𝓤 H A′ W 6 2 tt (plain (λ _. u8)),
+                (
+                  goes-gave-slice 𝓤 H A′ W 6 3 tt (plain (λ _. u8)),
+                  (
+                    goes-gave-slice 𝓤 H A′ W 6 4 tt (plain (λ _. u8)),
+                    (goes-none-slice 𝓤 H A′ W 6 (5 ∷ []) tt (plain (λ _. u8)) yes, (goes-none 𝓤 H A′ W 6 (λ _. Q) yes (λ _. q .silent), tt)),
+                  ),
+                ),
+              ),
+            ),
+          )
           (entry-clauses N C Q A Said 𝓤) (WpFn 𝓤 H (𝓣 .C) (𝓣 .Λ) (function #first #second)) (WpFn-mono 𝓤 H (W .laws) 𝓣 (function #first #second))
           (walked 𝓤 H A′ (entry-ended N C Q A Said) stayed (entry-clauses N C Q A Said 𝓤) (WpFn 𝓤 H (𝓣 .C) (𝓣 .Λ) (function #first #second))
           (λ κs. (slice-vals, (slice-vals, (slice-vals, (slice-vals, (slice-vals, (slice-vals, (λ y. q .val y ∷ [], tt))))))))
-          (λ κs. (mut-slice-tells (named 0) (κs .0) N, (mut-slice-tells (named 1) (κs .1 .0) C, (mut-slice-tells (named 2) (κs .1 .1 .0) u8, (mut-slice-tells (named 3) (κs .1 .1 .1 .0) u8,
-          (mut-slice-tells (named 4) (κs .1 .1 .1 .1 .0) u8, (shr-slice-tells (named 5) (κs .1 .1 .1 .1 .1 .0) u8, (q .tells, tt))))))))
+          (λ κs. (
+            mut-slice-tells (named 0) (κs .0) N,
+            (
+              mut-slice-tells (named 1) (κs .1 .0) C,
+              (
+                mut-slice-tells (named 2) (κs .1 .1 .0) u8,
+                (
+                  mut-slice-tells (named 3) (κs .1 .1 .1 .0) u8,
+                  (mut-slice-tells (named 4) (κs .1 .1 .1 .1 .0) u8, (shr-slice-tells (named 5) (κs .1 .1 .1 .1 .1 .0) u8, (q .tells, tt))),
+                ),
+              ),
+            ),
+          ))
           (λ κs qs bounds a g are. via 𝓤 _ (fst∗ 𝓤 _ (emp 𝓤)) (walk (record { κ = κs .0; q = qs .0; s = a .0 }) (record { κ = κs .1 .0; q = qs .1 .0; s = a .1 .0 })
           (record { κ = κs .1 .1 .0; q = qs .1 .1 .0; s = a .1 .1 .0 }) (record { κ = κs .1 .1 .1 .0; q = qs .1 .1 .1 .0; s = a .1 .1 .1 .0 })
           (record { κ = κs .1 .1 .1 .1 .0; q = qs .1 .1 .1 .1 .0; s = a .1 .1 .1 .1 .0 }) (record { κ = κs .1 .1 .1 .1 .1 .0; q = qs .1 .1 .1 .1 .1 .0; s = a .1 .1 .1 .1 .1 .0 }) (a .1 .1 .1 .1 .1 .1 .0)
