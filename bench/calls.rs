@@ -1,6 +1,6 @@
 //! What a swap, an add and a whole rebuild cost on records by value in the largest stripe, beside the same calls in plain Rust (`plain.rs`), in one
 //! run, on tables at the same places of a page. Both repeat a swap or an add by the same client at one node, whose list has 0 to 15 entries, so that
-//! crossing from Rust costs nothing.
+//! crossing from Rust costs nothing. Then a swap by the entry point on lent tables, which both make anew for each swap; and a call that only asks.
 use plain::{Client, Node, Sizes, Stripe};
 use std::hint::black_box;
 use timing::{best_of, met, noise};
@@ -42,7 +42,44 @@ extern "C" {
         spare: *mut u8,
         spare_length: usize,
     ) -> u8;
+    fn callbench_lent_swap(
+        times: usize,
+        b: usize,
+        value: *const u8,
+        value_length: usize,
+        blocks: *mut u8,
+        blocks_length: usize,
+        spare: *mut u8,
+        spare_length: usize,
+        differences: *mut u8,
+        differences_length: usize,
+    ) -> u8;
+    fn callbench_lent_dues(
+        times: usize,
+        b: usize,
+        value: *const u8,
+        value_length: usize,
+        blocks: *mut u8,
+        blocks_length: usize,
+        spare: *mut u8,
+        spare_length: usize,
+        differences: *mut u8,
+        differences_length: usize,
+    ) -> u8;
 }
+
+type Lent = unsafe extern "C" fn(
+    usize,
+    usize,
+    *const u8,
+    usize,
+    *mut u8,
+    usize,
+    *mut u8,
+    usize,
+    *mut u8,
+    usize,
+) -> u8;
 
 /// Bytes that begin at a fixed place of a page, the same for every buffer of that place.
 struct Buffer {
@@ -140,6 +177,33 @@ fn proved_rebuild(b: usize, tables: &mut Tables) {
     });
 }
 
+fn lent(call: Lent, b: usize, tables: &mut Tables) {
+    let (value, blocks, spare, differences) = (
+        tables.value.get(),
+        tables.blocks.get(),
+        tables.spare.get(),
+        tables.differences.get(),
+    );
+    accepted(unsafe {
+        call(
+            TIMES,
+            b,
+            value.as_ptr(),
+            value.len(),
+            blocks.as_mut_ptr(),
+            blocks.len(),
+            spare.as_mut_ptr(),
+            spare.len(),
+            differences.as_mut_ptr(),
+            differences.len(),
+        )
+    });
+}
+
+fn lent_swaps(b: usize, tables: &mut Tables) {
+    lent(callbench_lent_swap, b, tables);
+}
+
 // The same in plain Rust.
 
 fn sizes(b: usize) -> Sizes {
@@ -203,6 +267,15 @@ fn plain_rebuild(b: usize, tables: &mut Tables) {
     });
 }
 
+fn plain_lent_swaps(b: usize, tables: &mut Tables) {
+    let z = sizes(b);
+    for _ in 0..TIMES {
+        plainly(tables, &mut [Node::fresh(); N], |stripe, value| {
+            accepted(stripe.swap(&z, 1, 1, value))
+        });
+    }
+}
+
 type Calls = fn(usize, &mut Tables);
 
 /// A line of the table. Both leave the same bytes. Returns the ratio.
@@ -223,12 +296,27 @@ fn line(name: &str, b: usize, times: usize, proved: Calls, plain: Calls) -> f64 
     ratio
 }
 
+/// What a call that only asks costs on lent tables: whether a node is due, 16 times on tables that are made for it.
+fn asking() {
+    let mut tables = Tables::new(1);
+    let [seconds, _] = best_of(
+        || lent(callbench_lent_dues, 1, black_box(&mut tables)),
+        || (),
+    );
+    let one = seconds / (16 * TIMES) as f64 * 1e9;
+    println!("a call that only asks, on lent tables: {one:.0} ns");
+}
+
 fn main() {
     println!("ns            B      proved  plain Rust   ratio");
     let swaps = LENGTHS.map(|b| line("swap", b, TIMES, proved_swaps, plain_swaps));
     let adds = LENGTHS.map(|b| line("add", b, TIMES, proved_adds, plain_adds));
     let rebuilds = LENGTHS.map(|b| line("rebuild", b, 1, proved_rebuild, plain_rebuild));
-    println!("(12,18), one client, all in the cache; the proved calls on records by value. A rebuild is 18 locks, a pick, 18 writes, 18 settles and 18 unlocks with 6 nodes lost.");
+    for b in LENGTHS {
+        line("lent", b, TIMES, lent_swaps, plain_lent_swaps);
+    }
+    asking();
+    println!("(12,18), one client, all in the cache; the proved calls on records by value, but \"lent\", a swap by the entry point on lent tables, which are made anew each time. A rebuild is 18 locks, a pick, 18 writes, 18 settles and 18 unlocks with 6 nodes lost.");
     let aims = [
         ("swap", swaps, [2.0, 1.25]),
         ("add", adds, [1.8, 1.10]),

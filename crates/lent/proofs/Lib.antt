@@ -1,8 +1,11 @@
 pub mod Changing
 pub mod Elem
+pub mod Entry
 pub mod Frees
+pub mod Local
 pub mod Pure
 pub mod ReadEntry
 pub mod Seeing
 pub mod Side
 pub mod StepEntry
+pub mod Twice
