@@ -4,11 +4,11 @@
 --         let mut clients = [c; m];
 --         step(&mut nodes, &mut clients, b1, b2, b3, b4, q)
 --     }
---     filled, fills        `[x; n]` as the front end writes it
+--     filled, fills        `[x; n]` as the front end writes it.        Table     the records and how many
 --     gives-out            a local array of equal records is lent as a `&mut` slice for a lifetime of a call, as a step of a walk
 --     takes-back           the lifetime ends, and the local's memory is back
---     function, Entry      the function's MIR, over the types and the callee's name; and the callee's contract, by a relation
---     Implied, meets       if that relation implies the function's, the MIR meets its contract
+--     function, Owned      the function's MIR, over the types and the callee's name; and its contract, by a relation
+--     Implied, meets       if the callee's relation implies the function's, the MIR meets its contract
 use mathlib.Core.Path.{_≡_, refl, sym, _∙_, subst}
 use Prim.Native.Nat.{ℕ, zero, suc, _*_, _^_}
 use mathlib.Core.List.{[], _∷_, List}
