@@ -1,4 +1,5 @@
--- What the contracts of calls on lent tables say: of two in a row, and of one on the function's own tables. What is primed is as the call leaves it. Assumes nothing.
+-- What the contracts of calls on lent tables say: of two in a row, and of one on the function's own tables. What is primed is as the call leaves it.
+-- Assumes nothing.
 use mathlib.Core.List.{List}
 use Prim.Native.Nat.{ℕ}
 use lib.ListN.{replicate}

@@ -47,7 +47,7 @@ impl AllTaken {
         ensures { λ r. ⌜ allBegun looked len r ⌝ }
     {
         let failed = NodeRecord::failed();
-        let items = [failed; 18];
+        let items = [failed; Sizes::NODES];
         let nodes = Nodes { items: items };
         AllTaken {
             len: len,
@@ -64,13 +64,17 @@ impl AllTaken {
     pub(crate) fn end(self) -> usize
         ensures { λ r. ⌜ r ≡ allEnd self ⌝ }
     {
-        if self.len <= 18 { self.len } else { 0 }
+        if self.len <= Sizes::NODES {
+            self.len
+        } else {
+            0
+        }
     }
 
     pub(crate) fn see(self, i: usize, node: NodeRecord) -> Self
         ensures { λ r. ⌜ r ≡ allSeen self i node ⌝ }
     {
-        if i >= 18 {
+        if i >= Sizes::NODES {
             return self;
         }
         let mut nodes = self.nodes;
@@ -90,7 +94,7 @@ impl AllTaken {
         if taken.len != z.m {
             return false;
         }
-        z.n <= 18
+        z.n <= Sizes::NODES
     }
 
     // No node's own record is put back.

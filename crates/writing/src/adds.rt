@@ -10,7 +10,7 @@ ghost use Rattle.blocks.specs.Blocks.{block, setBlock, addTimes};
 ghost use Rattle.code.specs.Code.{coefficient};
 ghost use Rattle.code.specs.Decode.{has, each, including};
 ghost use Rattle.code.specs.View.{nodeSetOf};
-ghost use Rattle.entries.specs.Entries.{finishedLimit};
+ghost use Rattle.entries.specs.Entries.{entryLimit, finishedLimit};
 ghost use Rattle.records.specs.Client.{withHand, finishedWrite, clientWithin};
 ghost use Rattle.records.specs.Node.{nodeWithin};
 ghost use Rattle.records.specs.Sizes.{sizesWithin, isRedundant, isClient};
@@ -113,7 +113,7 @@ fn add_bytes(b: usize, c: u8, j: u8, i: u8, blocks: &mut [u8], differences: &[u8
 
 // The write in hand at node j, if it is not done there and the node takes it: the id entered, and j joined.
 fn step_write(z: Sizes, j: u8, write: Write, node: NodeRecord, client: ClientRecord) -> AtNode
-    requires { ⌜ (client .hand ≡ Hand.Holding write) × (z .k ≤ z .n) × (node .entries .count ≤ 16) × (client .finished .count < 8) ⌝ }
+    requires { ⌜ (client .hand ≡ Hand.Holding write) × (z .k ≤ z .n) × (node .entries .count ≤ entryLimit) × (client .finished .count < finishedLimit) ⌝ }
     ensures { λ r. ⌜ ((c : ℕ) (blocks differences : List ℕ) → StepsRecords
         (Writing.writeTests j (clientOf client .hand) (nodeOf node))
         (added z c j (clientOf client .hand) (local (nodeOf node) (clientOf client) blocks differences))

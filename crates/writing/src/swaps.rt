@@ -96,7 +96,7 @@ fn begin(id: WriteId, node: NodeRecord, client: ClientRecord) -> ClientRecord
 
 // The tests past those of the limits, in the order of their numbers; then the two records as the swap leaves them.
 fn step_records(z: Sizes, c: u8, i: u8, node: NodeRecord, client: ClientRecord) -> AtNode
-    requires { ⌜ node .entries .count ≤ 16 ⌝ }
+    requires { ⌜ node .entries .count ≤ entryLimit ⌝ }
     ensures { λ r. ⌜ ((value blocks differences : List ℕ) → StepsRecords
         (Writing.swapTests z c i (nodeOf node) (clientOf client))
         (answered Accepted (Writing.swapped z c i value (local (nodeOf node) (clientOf client) blocks differences)))
