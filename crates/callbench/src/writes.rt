@@ -47,7 +47,7 @@ fn swap(
     }
     let node = node_after(start, last);
     let client = start.client;
-    writing::swap(z, 1, 1, value, node, client, blocks, differences)
+    swapping::swap(z, 1, 1, value, node, client, blocks, differences)
 }
 
 #[no_mangle]
@@ -76,7 +76,7 @@ fn add(z: Sizes, start: AtNode, last: AtNode, blocks: &mut [u8], differences: &[
     }
     let node = node_after(start, last);
     let client = start.client;
-    writing::add(z, 1, 13, node, client, blocks, differences)
+    adding::add(z, 1, 13, node, client, blocks, differences)
 }
 
 // A client with a write in hand, the first at position 1.

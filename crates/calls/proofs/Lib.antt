@@ -1,2 +1,5 @@
 pub mod Left
+pub mod NodeAnswers
 pub mod Numbers
+pub mod Returns
+pub mod Stepping

@@ -1,4 +1,2 @@
 pub mod Limits
-pub mod NodeAnswers
-pub mod Returns
 pub mod Within

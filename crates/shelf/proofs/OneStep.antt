@@ -24,7 +24,7 @@ use Rattle.records.specs.declared.Refusal.the-variants.{OutOfLimits}
 use Rattle.records.specs.Client.{Client}
 use Rattle.records.specs.View.{clientOf, nodeOf}
 use Rattle.step.specs.Steps.{StepsAs, stripeWith}
-use Rattle.writing.specs.Reading.{readInto}
+use Rattle.swapping.specs.Reading.{readInto}
 use Rattle.shelf.specs.declared.Found.{Found}
 use Rattle.shelf.specs.declared.ReadRequest.{ReadRequest}
 use Rattle.shelf.specs.declared.Request.{Request}

@@ -159,6 +159,6 @@ impl Found {
         if self.len != z.n {
             return Answer::Refused(Refusal::OutOfLimits);
         }
-        writing::read(z, request.i, node, blocks, out)
+        swapping::read(z, request.i, node, blocks, out)
     }
 }

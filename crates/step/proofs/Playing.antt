@@ -34,7 +34,7 @@ use Rattle.calls.specs.Calls.{stepOf}
 use Rattle.calls.proofs.Left.{refusing, left-same, left-free}
 use Rattle.stripe.specs.Seen.{applied}
 use Rattle.stripe.specs.View.{nodesOf}
-use Rattle.writing.specs.Reading.{readInto}
+use Rattle.swapping.specs.Reading.{readInto}
 use Rattle.picking.specs.declared.Picked.{Picked}
 use Rattle.picking.specs.Picking.{Picks, seenWhole}
 use Rattle.step.specs.declared.Stripe.{Stripe}

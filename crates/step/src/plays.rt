@@ -104,7 +104,7 @@ fn read(z: Sizes, i: u8, stripe: Stripe, blocks: &[u8], shown: &mut [u8]) -> Ans
 {
     let nodes = stripe.nodes;
     let node = nodes::get(nodes, z.n, i as usize);
-    writing::read(z, i, node, blocks, shown)
+    swapping::read(z, i, node, blocks, shown)
 }
 
 // The stripe with what a pick of client c handed back.

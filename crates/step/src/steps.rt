@@ -91,8 +91,8 @@ fn at_node(
         ((r .node ≡ node) × (r .client ≡ client)) ⌝ }
 {
     match op {
-        NodeCall::Add => writing::add(z, c, j, node, client, blocks, differences),
-        NodeCall::Check => beside(node, writing::check(z, c, j, node, client)),
+        NodeCall::Add => adding::add(z, c, j, node, client, blocks, differences),
+        NodeCall::Check => beside(node, sweeping::check(z, c, j, node, client)),
     }
 }
 
@@ -111,8 +111,8 @@ fn by_client(
         StepsAs z (StepCall.By op c) seen node client value (now (blocks .entry)) (now (spare .entry)) differences r (now (blocks .exit)) differences) ⌝ }
 {
     match op {
-        ClientCall::Drop => kept(beside(node, writing::drop(z, c, client))),
-        ClientCall::Sweep => kept(writing::sweep(z, c, node, client)),
+        ClientCall::Drop => kept(beside(node, sweeping::drop(z, c, client))),
+        ClientCall::Sweep => kept(sweeping::sweep(z, c, node, client)),
         ClientCall::Stop => failure::stop(z, c, seen, node, client),
         ClientCall::Lock => rebuild::lock(z, c, seen, node, client),
         ClientCall::Weaken => rebuild::weaken(z, c, seen, node, client),
@@ -141,7 +141,7 @@ pub fn step(
         r (now (blocks .exit)) (now (differences .exit)) ⌝ }
 {
     match call {
-        StepCall::Swap(c, i) => kept(writing::swap(
+        StepCall::Swap(c, i) => kept(swapping::swap(
             z,
             c,
             i,

@@ -4,7 +4,7 @@ use Rattle.basics.proofs.Tests.{and-right}
 use Rattle.records.specs.Sizes.{sizesWithin}
 use Rattle.records.proofs.Limits.{few-entries}
 use Rattle.machine.specs.Aging as Aging
-use Rattle.limits.proofs.Returns.{holds, guards}
+use Rattle.calls.proofs.Returns.{holds, guards}
 use Rattle.aging.proofs.dues.due.Statement.{statement}
 use Rattle.aging.proofs.dues.due.Tie as tie
 

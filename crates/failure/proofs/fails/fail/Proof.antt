@@ -7,8 +7,8 @@ use Rattle.records.specs.Sizes.{sizesWithin}
 use Rattle.machine.specs.Stripe.{blocksFit}
 use Rattle.machine.specs.Failure as Failure
 use Rattle.limits.proofs.Limits.{range-low, block-in}
-use Rattle.limits.proofs.NodeAnswers.{stepped}
-use Rattle.limits.proofs.Returns.{holds, guards, refused-of-node, accepted}
+use Rattle.calls.proofs.NodeAnswers.{stepped}
+use Rattle.calls.proofs.Returns.{holds, guards, refused-of-node, accepted}
 use Rattle.failure.proofs.fails.fail.Statement.{statement}
 use Rattle.failure.proofs.fails.fail.Tie as tie
 

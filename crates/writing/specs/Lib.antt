@@ -1,4 +1,0 @@
-pub mod Adding
-pub mod Reading
-pub mod Stepping
-pub mod Sweeping
