@@ -2,4 +2,3 @@ pub mod Limits
 pub mod Stepping
 pub mod Phases
 pub mod Tabled
-pub mod Weakening

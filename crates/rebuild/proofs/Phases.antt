@@ -1,17 +1,17 @@
 -- The phases of a rebuild: what the limits of the client's record say of the phase's node and epoch, and the calls out of their phase. Assumes nothing.
 use mathlib.Core.Path.{_≡_, refl, _∙_}
 use mathlib.Core.Logic.{inl, inr}
-use mathlib.Core.Bool.{Bool, true, false, _&&_, not}
+use mathlib.Core.Bool.{Bool, true, false, cond, _&&_, not}
 use mathlib.Core.List.{List, [], _∷_}
 use Prim.Native.Nat.{ℕ, _≤_, _<_, max}
 use lib.Dec.{eqb, leb, ltb}
 use borrow.Author.Tests.{leb-true, ltb-true, not-true}
 use types.Run.{OneOf}
 use denote.Enum.Declared.{tagOf}
-use Rattle.basics.proofs.Tests.{and-left, and-right}
+use Rattle.basics.proofs.Tests.{and-left, and-right, and-both}
 use Rattle.code.specs.declared.nodes.NodeSet.{NodeSet}
 use Rattle.machine.specs.Stripe.{Outcome, Whole, refused, guard}
-use Rattle.machine.specs.Rebuild.{phaseOf, outOf}
+use Rattle.machine.specs.Rebuild.{picks, phaseOf, outOf, own, isWeakened}
 use Rattle.entries.specs.declared.Epoch.{Epoch}
 use Rattle.records.specs.declared.Sizes.{Sizes}
 use Rattle.records.specs.declared.ClientRecord.{ClientRecord}
@@ -29,7 +29,7 @@ use Rattle.records.proofs.Limits.{nodes-few}
 use Rattle.records.proofs.Phase.{the-type}
 use Rattle.stripe.specs.declared.seen.Seen.{Seen}
 use Rattle.calls.specs.Answers.{whole}
-use Rattle.rebuild.specs.Contracts.{Admitted}
+use Rattle.rebuild.specs.Contracts.{Admitted, isPicking}
 
 -- ---- the phase's node
 
@@ -92,3 +92,25 @@ pub out-of-phase : (phase : ℕ) (tags : List ℕ) (y : ClientRecord) {nodes : L
     → let w = whole nodes (clientOf y) blocks spare in refused OutOfPhase w ≡ guard (outOf phase w) OutOfPhase w rest
 unfolding guard
 out-of-phase phase tags y rest k e = rw (by-tag (y .phase), none-of phase tags (tagOf the-type (y .phase)) k e)
+
+-- ---- the phase of pick and weaken
+
+-- what is left of one past 1 and 2
+module _ (w : Whole) where
+  abbrev pub inPicks : Outcome Whole → Outcome Whole
+  inPicks rest = guard (outOf picks w) OutOfPhase w (guard (isWeakened w) OutOfPhase w rest)
+
+  pub picks-out : (rest : Outcome Whole) → isPicking (w .client .rebuild) ≡ false → refused OutOfPhase w ≡ inPicks rest
+  unfolding guard
+  picks-out rest e = by (eqb (phaseOf (w .client .rebuild)) picks) (eqb (own w) 0) e
+    where
+      by : (phase none : Bool) → (phase && none) ≡ false
+          → refused OutOfPhase w ≡ cond (not phase) (refused OutOfPhase w) (cond (not none) (refused OutOfPhase w) rest)
+      by true true e = cc
+      by true false e = refl
+      by false none e = refl
+
+  module _ (e : isPicking (w .client .rebuild) ≡ true) where
+    pub picks-in : (rest : Outcome Whole) → rest ≡ inPicks rest
+    unfolding guard
+    picks-in rest = let both = and-both (eqb (phaseOf (w .client .rebuild)) picks) (eqb (own w) 0) e in rw (both .0, both .1)

@@ -42,7 +42,7 @@ impl Stepped {
     }
 
     // Answer 10: all that c held becomes EXP, and its rebuild ends.
-    pub(crate) fn lost(z: Sizes, c: u8, seen: Seen, node: NodeRecord, client: ClientRecord) -> Self
+    pub fn lost(z: Sizes, c: u8, seen: Seen, node: NodeRecord, client: ClientRecord) -> Self
         ensures { λ r. ⌜ Steps notHeld z c seen node client r ⌝ }
     {
         Stepped {
@@ -75,7 +75,7 @@ pub fn entrance(z: Sizes, c: u8, seen: Seen, client: ClientRecord) -> NodeAnswer
 }
 
 // The call's own node was stepped: the rebuild goes on with the next node, or is lost.
-pub(crate) fn go_on(
+pub fn go_on(
     z: Sizes,
     c: u8,
     seen: Seen,

@@ -114,13 +114,13 @@ fn by_client(
         ClientCall::Drop => kept(beside(node, sweeping::drop(z, c, client))),
         ClientCall::Sweep => kept(sweeping::sweep(z, c, node, client)),
         ClientCall::Stop => failure::stop(z, c, seen, node, client),
-        ClientCall::Lock => rebuild::lock(z, c, seen, node, client),
-        ClientCall::Weaken => rebuild::weaken(z, c, seen, node, client),
-        ClientCall::Tighten => rebuild::tighten(z, c, seen, node, client),
-        ClientCall::Write => rebuild::write(z, c, seen, node, client, blocks, spare),
-        ClientCall::Settle => rebuild::settle(z, c, seen, node, client),
-        ClientCall::Unlock => rebuild::unlock(z, c, seen, node, client),
-        ClientCall::Quit => rebuild::quit(z, c, seen, node, client),
+        ClientCall::Lock => locking::lock(z, c, seen, node, client),
+        ClientCall::Weaken => locking::weaken(z, c, seen, node, client),
+        ClientCall::Tighten => locking::tighten(z, c, seen, node, client),
+        ClientCall::Write => restoring::write(z, c, seen, node, client, blocks, spare),
+        ClientCall::Settle => restoring::settle(z, c, seen, node, client),
+        ClientCall::Unlock => locking::unlock(z, c, seen, node, client),
+        ClientCall::Quit => locking::quit(z, c, seen, node, client),
     }
 }
 

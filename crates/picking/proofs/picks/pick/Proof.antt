@@ -4,7 +4,7 @@ use borrow.Author.Needs.{needs}
 use Rattle.machine.specs.Rebuild.{pick, pickNow}
 use Rattle.picking.specs.Picking.{seenWhole}
 use Rattle.rebuild.proofs.Tabled.{tabled-admitted, tabled-tables, tabled-failed, tabled-passed}
-use Rattle.rebuild.proofs.Weakening.{picks-in, picks-out}
+use Rattle.rebuild.proofs.Phases.{picks-in, picks-out}
 use Rattle.picking.proofs.Picking.{picks-refused, picks-as, pick-admitted}
 use Rattle.picking.proofs.picks.pick.Statement.{statement}
 use Rattle.picking.proofs.picks.pick.Tie as tie
