@@ -23,7 +23,6 @@ use calls::Answer;
 use calls::AtNode;
 use calls::OfClient;
 use code::NodeSet;
-use limits::at_node::are_records_within;
 use limits::tables::are_tables;
 use records::ClientRecord;
 use records::Hand;
@@ -44,7 +43,7 @@ fn is_within(
     ensures { λ r. ⌜ r ≡ (sizesWithin z && ((nodeWithin z (nodeOf node) && clientWithin z (clientOf client))
         && (eqb blocks (z .n * z .b) && eqb differences (z .m * z .b)))) ⌝ }
 {
-    z.within() && (are_records_within(z, node, client) && are_tables(blocks, differences, z))
+    z.within() && ((node.is_within(z) && client.is_within(z)) && are_tables(blocks, differences, z))
 }
 
 fn is_in_range(z: Sizes, c: u8, j: u8) -> bool

@@ -20,7 +20,6 @@ use calls::Answer;
 use calls::AtNode;
 use entries::Ids;
 use entries::WriteId;
-use limits::at_node::are_records_within;
 use limits::tables::are_tables;
 use records::ClientRecord;
 use records::NodeAnswer;
@@ -42,7 +41,7 @@ fn is_within(
         && ((eqb blocks (z .n * z .b) && eqb differences (z .m * z .b)) && eqb value (z .b)))) ⌝ }
 {
     z.within()
-        && (are_records_within(z, node, client)
+        && ((node.is_within(z) && client.is_within(z))
             && (are_tables(blocks, differences, z) && value == z.b))
 }
 
