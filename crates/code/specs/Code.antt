@@ -10,9 +10,21 @@ use Rattle.gf256.specs.Field.{product, inverse}
 unfoldable pub use Rattle.gf256.specs.Field.{sum}
 use Rattle.blocks.specs.Blocks.{byteAt, table}
 
--- "k is 2 to 12; n−k is 1 to 6 and at most k; block length B is 1 to 4,096"
+-- "k is 2 to 12; n−k is 1 to 6 and at most k; block length B is 1 to 4,096"; so there are at most 18 nodes
+abbrev pub dataLimit : ℕ
+dataLimit = 12
+
+abbrev pub redundantLimit : ℕ
+redundantLimit = 6
+
+abbrev pub nodeLimit : ℕ
+nodeLimit = dataLimit + redundantLimit
+
+abbrev pub blockLimit : ℕ
+blockLimit = 4096
+
 unfoldable pub codeSizes : ℕ → ℕ → ℕ → Bool
-codeSizes k n b = (leb 2 k && leb k 12) && ((ltb k n && (leb (n - k) 6 && leb (n - k) k)) && (leb 1 b && leb b 4096))
+codeSizes k n b = (leb 2 k && leb k dataLimit) && ((ltb k n && (leb (n - k) redundantLimit && leb (n - k) k)) && (leb 1 b && leb b blockLimit))
 
 -- "The coefficient c(j,i) is the inverse of (j−1) XOR (i−1)"
 unfoldable pub coefficient : ℕ → ℕ → ℕ

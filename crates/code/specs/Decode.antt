@@ -8,11 +8,11 @@ use lib.Bits.{bitXor}
 use lib.Dec.{eqb}
 use lib.ListN.{length, getD}
 use Rattle.gf256.specs.Field.{product, inverse}
-use Rattle.code.specs.Code.{sum, row}
+use Rattle.code.specs.Code.{nodeLimit, sum, row}
 use Rattle.basics.specs.Lists.{listOf}
 use Rattle.blocks.specs.Blocks.{byteAt, table}
 
--- a set of nodes: place j − 1 says whether node j is in it, for the 18 nodes that a stripe has at most
+-- a set of nodes: place j − 1 says whether node j is in it, for as many nodes as a stripe has at most
 abbrev pub NodeSet : Type 0
 NodeSet = List Bool
 
@@ -22,7 +22,7 @@ has s (suc j) = getD s j false
 
 -- the nodes that p holds of
 unfoldable pub setOf : (ℕ → Bool) → NodeSet
-setOf p = listOf 18 (λ i. p (suc i))
+setOf p = listOf nodeLimit (λ i. p (suc i))
 
 abbrev pub noNodes : NodeSet
 noNodes = setOf (λ j. false)

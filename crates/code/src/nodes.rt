@@ -3,8 +3,10 @@ ghost use mathlib.Core.Bool.{cond};
 ghost use mathlib.Core.Path.{_≡_};
 ghost use Prim.Native.Nat.{ℕ, _≤_};
 ghost use lib.ListN.{getD};
+ghost use Rattle.code.specs.Code.{nodeLimit};
 ghost use Rattle.code.specs.Decode;
 ghost use Rattle.code.specs.View.{nodeSetOf};
+use crate::Limits;
 
 // Bit j - 1 says whether node j is in the set; the bits past the last node say nothing.
 pub struct NodeSet {
@@ -13,7 +15,7 @@ pub struct NodeSet {
 
 impl NodeSet {
     // How many nodes a stripe has at most.
-    pub const NODES: usize = 18;
+    pub const NODES: usize = Limits::DATA_MOST + Limits::REDUNDANT_MOST;
 
     // One more than the bits of all nodes.
     const END: u32 = 262_144;
@@ -36,7 +38,7 @@ impl NodeSet {
         (self.bits >> (j - 1)) % 2 == 1
     }
 
-    // The set and node j, if j is one of the 18.
+    // The set and node j, if it is one that a stripe can have.
     pub fn with(self, j: usize) -> Self
         ensures { λ r. ⌜ nodeSetOf r ≡ Decode.including j (nodeSetOf self) ⌝ }
     {
@@ -79,7 +81,7 @@ impl NodeSet {
     }
 
     pub fn size(self) -> usize
-        ensures { λ r. ⌜ (r ≡ Decode.size (nodeSetOf self)) × (r ≤ 18) ⌝ }
+        ensures { λ r. ⌜ (r ≡ Decode.size (nodeSetOf self)) × (r ≤ nodeLimit) ⌝ }
     {
         u32::count_ones(self.bits % NodeSet::END) as usize
     }

@@ -2,11 +2,14 @@
 ghost use mathlib.Core.Path.{_≡_};
 ghost use Prim.Native.Nat.{_+_, _-_, _*_, _≤_};
 ghost use lib.ListN.{length};
+ghost use Rattle.code.specs.Code.{dataLimit, redundantLimit, blockLimit};
 ghost use Rattle.codecheck.specs.Cases.{Within, Room, Tables};
 use super::Sizes;
 use super::checksum;
 use super::decodings;
 use super::line::Line;
+use code::Limits;
+use code::NodeSet;
 
 // The lengths of a case's buffers.
 struct Lengths {
@@ -28,7 +31,7 @@ fn data_byte(s: Sizes, q: u16) -> u8
 }
 
 fn fill_data(s: Sizes, data: &mut [u8])
-    requires { ⌜ Within s × (length (now «data») ≤ 49152) ⌝ }
+    requires { ⌜ Within s × (length (now «data») ≤ dataLimit * blockLimit) ⌝ }
 {
     for q in 0..data.len() {
         data[q] = data_byte(s, q as u16);
@@ -66,7 +69,7 @@ fn print_codeword(s: Sizes, redundant: &[u8])
 // A case in the buffers lent.
 fn print_lent(s: Sizes, word: &mut [u8], table: &mut [u8], data: &mut [u8], redundant: &mut [u8])
     requires { ⌜ Tables s (now word) (now table) ⌝ }
-    requires { ⌜ (length (now «data») ≤ 49152) × (length (now word) ≡ length (now «data») + length (now redundant)) ⌝ }
+    requires { ⌜ (length (now «data») ≤ dataLimit * blockLimit) × (length (now word) ≡ length (now «data») + length (now redundant)) ⌝ }
 {
     fill_data(s, data);
     coding::encode(s.k, s.n, s.b, data, redundant);
@@ -91,10 +94,10 @@ fn lengths_of(s: Sizes) -> Lengths
 fn print_case(s: Sizes)
     requires { ⌜ Within s ⌝ }
 {
-    let mut word = [0u8; 73728];
-    let mut table = [0u8; 73728];
-    let mut data = [0u8; 49152];
-    let mut redundant = [0u8; 24576];
+    let mut word = [0u8; NodeSet::NODES * Limits::BLOCK_MOST];
+    let mut table = [0u8; NodeSet::NODES * Limits::BLOCK_MOST];
+    let mut data = [0u8; Limits::DATA_MOST * Limits::BLOCK_MOST];
+    let mut redundant = [0u8; Limits::REDUNDANT_MOST * Limits::BLOCK_MOST];
     let lengths = lengths_of(s);
     let t = lengths.table;
     let d = lengths.data;
@@ -109,12 +112,16 @@ fn print_case(s: Sizes)
 }
 
 fn print_lengths(k: usize, n: usize)
-    requires { ⌜ (k ≤ 12) × (k ≤ n) × (n - k ≤ 6) ⌝ }
+    requires { ⌜ (k ≤ dataLimit) × (k ≤ n) × (n - k ≤ redundantLimit) ⌝ }
 {
     print_case(Sizes { k, n, b: 1 });
     print_case(Sizes { k, n, b: 2 });
     print_case(Sizes { k, n, b: 511 });
-    print_case(Sizes { k, n, b: 4096 });
+    print_case(Sizes {
+        k,
+        n,
+        b: Limits::BLOCK_MOST,
+    });
 }
 
 pub fn print() {

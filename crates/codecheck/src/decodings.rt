@@ -7,6 +7,8 @@ use super::Sizes;
 use super::checksum;
 use super::line::Line;
 use super::sets;
+use code::Limits;
+use code::NodeSet;
 
 // Puts the lost block in the place of each block outside the set.
 fn lose(s: Sizes, set: u32, lost: &[u8], table: &mut [u8])
@@ -34,7 +36,7 @@ fn decoded(
 {
     let k = s.k;
     let b = s.b;
-    let lost = [0xA5u8; 4096];
+    let lost = [0xA5u8; Limits::BLOCK_MOST];
     blocks::copy(table, word);
     lose(s, set, &lost[0..b], table);
     let members = sets::members(set, s.n);
@@ -53,7 +55,7 @@ fn neighbours(second: u8, sixth: u8) -> bool {
 fn print_line(s: Sizes, set: u32, h: u32) -> u32
     requires { ⌜ Within s ⌝ }
 {
-    if s.n < 18 {
+    if s.n < NodeSet::NODES {
         let k = s.k;
         let members = sets::members(set, s.n);
         Line::new()
@@ -63,7 +65,7 @@ fn print_line(s: Sizes, set: u32, h: u32) -> u32
             .write();
         return 0;
     }
-    let missing = sets::members(!set, 18);
+    let missing = sets::members(!set, NodeSet::NODES);
     if neighbours(missing[1], missing[5]) {
         Line::new()
             .bytes(&missing[0..2])

@@ -8,7 +8,7 @@ use lib.Dec.{eqb, ltb}
 use lib.ListN.{length, getD}
 use Rattle.gf256.specs.Field.{product, inverse, power}
 use Rattle.blocks.specs.Blocks.{byteAt}
-use Rattle.code.specs.Code.{coefficient}
+use Rattle.code.specs.Code.{dataLimit, coefficient}
 use Rattle.kernel.specs.Combine.{nth}
 use Rattle.code.specs.Decode.{others, scale, recover, recovered}
 
@@ -24,10 +24,10 @@ ApartBut nodes q j = (l : ℕ) → l < length nodes → suc l ≢ q → getD nod
 pub record Rising (nodes : List ℕ) : Type 0 where
   pub rises : (p q : ℕ) → p < q → q < length nodes → getD nodes p 0 < getD nodes q 0
 
--- the nodes 1 to 12
+-- the nodes that can hold data
 pub record First (nodes : List ℕ) : Type 0 where
-  pub twelve : length nodes ≡ 12
-  pub at : (q : ℕ) → q < 12 → getD nodes q 0 ≡ suc q
+  pub twelve : length nodes ≡ dataLimit
+  pub at : (q : ℕ) → q < dataLimit → getD nodes q 0 ≡ suc q
 
 -- the factor of `recover` that belongs to node s q alone
 abbrev pub share : ℕ → (ℕ → ℕ) → ℕ → ℕ
@@ -66,5 +66,5 @@ pub record Held (nodes : List ℕ) (j : ℕ) (w : ℕ → ℕ) : Type 0 where
   pub weights : (q : ℕ) → q < length nodes → w q ≡ unitWeight place q
 
 pub record Recovers (nodes : List ℕ) (j : ℕ) (w : ℕ → ℕ) : Type 0 where
-  pub tail : (q : ℕ) → length nodes ≤ q → q < 12 → w q ≡ 0
+  pub tail : (q : ℕ) → length nodes ≤ q → q < dataLimit → w q ≡ 0
   pub either : Lost nodes j w ⊎ Held nodes j w

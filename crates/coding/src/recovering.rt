@@ -6,10 +6,12 @@ ghost use lib.ListN.{length, getD};
 ghost use Rattle.gf256.specs.Field.{IsPowers, IsLogarithms};
 ghost use Rattle.blocks.specs.Blocks.{table};
 ghost use Rattle.kernel.specs.Combine.{nth, HasBlocks, Nodes};
+ghost use Rattle.code.specs.Code.{dataLimit, blockLimit};
 ghost use Rattle.code.specs.Decode;
 ghost use Rattle.code.specs.View.{nodeSetOf};
 ghost use Rattle.coding.specs.Weights.{Apart, Rising, Recovers, Shares, restoredByte};
 use crate::weights;
+use code::Limits;
 use code::NodeSet;
 
 // The place of node j among the nodes, from 1; or 0.
@@ -31,9 +33,9 @@ fn node_row(
     powers: &[u8; 255],
     logarithms: &[u8; 256],
     nodes: &[u8],
-    shares: &[usize; 12],
+    shares: &[usize; Limits::DATA_MOST],
     j: usize,
-) -> [u8; 12]
+) -> [u8; Limits::DATA_MOST]
     requires { ⌜ IsPowers (now powers) × IsLogarithms (now logarithms) × Nodes (now nodes) × (1 ≤ j) × (j ≤ 256)
         × Shares (now nodes) (now shares) ⌝ }
     ensures { λ r. ⌜ Recovers (now (nodes .entry)) j (λ q. getD r q 0) ⌝ }
@@ -47,9 +49,9 @@ fn node_row(
 
 // The weights of the nodes 1 to m, twelve of each.
 fn fill_rows(rows: &mut [u8], m: usize, nodes: &[u8])
-    requires { ⌜ (m ≤ 256) × (length (now rows) ≡ 3072) × Nodes (now nodes) × Rising (now nodes) ⌝ }
-    ensures { λ _. ⌜ (length (now (rows .exit)) ≡ 3072)
-        × ((u : ℕ) → u < m → Recovers (now (nodes .entry)) (suc u) (λ q. getD (now (rows .exit)) (u * 12 + q) 0)) ⌝ }
+    requires { ⌜ (m ≤ 256) × (length (now rows) ≡ 256 * dataLimit) × Nodes (now nodes) × Rising (now nodes) ⌝ }
+    ensures { λ _. ⌜ (length (now (rows .exit)) ≡ 256 * dataLimit)
+        × ((u : ℕ) → u < m → Recovers (now (nodes .entry)) (suc u) (λ q. getD (now (rows .exit)) (u * dataLimit + q) 0)) ⌝ }
 {
     let powers = gf256::powers::table();
     let logarithms = gf256::logarithms::table();
@@ -57,8 +59,8 @@ fn fill_rows(rows: &mut [u8], m: usize, nodes: &[u8])
     let mut j = 0;
     while j < m {
         let row = node_row(&powers, &logarithms, nodes, &shares, j + 1);
-        let a = j * 12;
-        let e = a + 12;
+        let a = j * Limits::DATA_MOST;
+        let e = a + Limits::DATA_MOST;
         blocks::copy(&mut rows[a..e], &row);
         j += 1;
     }
@@ -66,22 +68,22 @@ fn fill_rows(rows: &mut [u8], m: usize, nodes: &[u8])
 
 // The blocks of the nodes 1 to m.
 fn recover_all(m: usize, b: usize, nodes: &[u8], blocks: &[u8], out: &mut [u8])
-    requires { ⌜ (m ≤ 256) × (b ≤ 4096) × Nodes (now nodes) × Rising (now nodes) × HasBlocks b (now blocks) (now nodes) × (length (now out) ≡ m * b) ⌝ }
+    requires { ⌜ (m ≤ 256) × (b ≤ blockLimit) × Nodes (now nodes) × Rising (now nodes) × HasBlocks b (now blocks) (now nodes) × (length (now out) ≡ m * b) ⌝ }
     ensures { λ _. ⌜ now (out .exit) ≡ table m b (restoredByte b (now (blocks .entry)) (now (nodes .entry))) ⌝ }
 {
     if nodes.len() == 0 {
         blocks::clear(out);
         return;
     }
-    let mut rows = [0u8; 3072];
+    let mut rows = [0u8; 256 * Limits::DATA_MOST];
     fill_rows(&mut rows, m, nodes);
-    let e = m * 12;
+    let e = m * Limits::DATA_MOST;
     kernel::mix(out, m, b, blocks, nodes, &rows[..e]);
 }
 
 // The first m blocks of the codeword that agrees with the table blocks at the k lowest members of the set.
 pub fn recover_table(k: usize, m: usize, b: usize, set: NodeSet, blocks: &[u8], out: &mut [u8])
-    requires { ⌜ (k ≤ 12) × (k ≤ Decode.size (nodeSetOf set)) × (m ≤ 256) × (b ≤ 4096) × (length (now out) ≡ m * b)
+    requires { ⌜ (k ≤ dataLimit) × (k ≤ Decode.size (nodeSetOf set)) × (m ≤ 256) × (b ≤ blockLimit) × (length (now out) ≡ m * b)
         × ((j : ℕ) → Decode.has (nodeSetOf set) j ≡ true → j * b ≤ length (now blocks)) ⌝ }
     ensures { λ _. ⌜ now (out .exit) ≡ Decode.recoveredTable k m b (nodeSetOf set) (now (blocks .entry)) ⌝ }
 {

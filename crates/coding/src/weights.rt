@@ -5,12 +5,14 @@ ghost use lib.ListN.{length, getD};
 ghost use Rattle.gf256.specs.Field;
 ghost use Rattle.gf256.specs.Field.{IsPowers, IsLogarithms};
 ghost use Rattle.code.specs.Code;
+ghost use Rattle.code.specs.Code.{dataLimit, redundantLimit};
 ghost use Rattle.code.specs.Decode;
 ghost use Rattle.kernel.specs.Combine.{nth, Nodes};
 ghost use Rattle.coding.specs.Weights.{Apart, ApartBut, Rising, First, IsShare, Shares, dataWeight, unitWeight};
+use code::Limits;
 
 // The nodes that can hold data.
-pub fn data_nodes() -> [u8; 12]
+pub fn data_nodes() -> [u8; Limits::DATA_MOST]
     ensures { λ r. ⌜ First r ⌝ }
 {
     [1, 2, 3, 4, 5, 6, 7, 8, 9, 10, 11, 12]
@@ -48,7 +50,7 @@ fn inverse(powers: &[u8; 255], logarithms: &[u8; 256], a: u8) -> u8
 
 // The weight of the data node that i nodes stand before in the redundant node j; 0 past the k data nodes.
 fn data_weight(powers: &[u8; 255], logarithms: &[u8; 256], k: usize, j: usize, i: usize) -> u8
-    requires { ⌜ IsPowers (now powers) × IsLogarithms (now logarithms) × (k ≤ 12) × (1 ≤ j) × (j ≤ 256) ⌝ }
+    requires { ⌜ IsPowers (now powers) × IsLogarithms (now logarithms) × (k ≤ dataLimit) × (1 ≤ j) × (j ≤ 256) ⌝ }
     ensures { λ r. ⌜ r ≡ dataWeight k j i ⌝ }
 {
     if k <= i {
@@ -58,16 +60,22 @@ fn data_weight(powers: &[u8; 255], logarithms: &[u8; 256], k: usize, j: usize, i
 }
 
 // The twelve weights of each of the m redundant nodes after k.
-pub fn data_weights(k: usize, m: usize) -> [u8; 72]
-    requires { ⌜ (k ≤ 12) × (m ≤ 6) ⌝ }
-    ensures { λ r. ⌜ ((i : ℕ) → i < m * 12 → getD r i 0 ≡ dataWeight k (k + i / 12 + 1) (i % 12)) ⌝ }
+pub fn data_weights(k: usize, m: usize) -> [u8; Limits::REDUNDANT_MOST * Limits::DATA_MOST]
+    requires { ⌜ (k ≤ dataLimit) × (m ≤ redundantLimit) ⌝ }
+    ensures { λ r. ⌜ ((i : ℕ) → i < m * dataLimit → getD r i 0 ≡ dataWeight k (k + i / dataLimit + 1) (i % dataLimit)) ⌝ }
 {
     let powers = gf256::powers::table();
     let logarithms = gf256::logarithms::table();
-    let mut r = [0u8; 72];
+    let mut r = [0u8; Limits::REDUNDANT_MOST * Limits::DATA_MOST];
     let mut i = 0;
-    while i < m * 12 {
-        r[i] = data_weight(&powers, &logarithms, k, k + i / 12 + 1, i % 12);
+    while i < m * Limits::DATA_MOST {
+        r[i] = data_weight(
+            &powers,
+            &logarithms,
+            k,
+            k + i / Limits::DATA_MOST + 1,
+            i % Limits::DATA_MOST,
+        );
         i += 1;
     }
     r
@@ -94,7 +102,7 @@ fn others(logarithms: &[u8; 256], nodes: &[u8], q: usize, j: usize) -> usize
 
 // The same over the data nodes.
 fn scale(logarithms: &[u8; 256], k: usize, j: usize) -> usize
-    requires { ⌜ IsLogarithms (now logarithms) × (k ≤ 12) × (1 ≤ j) × (j ≤ 256) ⌝ }
+    requires { ⌜ IsLogarithms (now logarithms) × (k ≤ dataLimit) × (1 ≤ j) × (j ≤ 256) ⌝ }
     ensures { λ r. ⌜ (Field.power r ≡ Decode.scale k j) × (r ≤ 3048) ⌝ }
 {
     let data = data_nodes();
@@ -119,11 +127,11 @@ fn share_of(logarithms: &[u8; 256], nodes: &[u8], q: usize) -> usize
     over(scale(logarithms, nodes.len(), j), apart)
 }
 
-pub fn shares(logarithms: &[u8; 256], nodes: &[u8]) -> [usize; 12]
+pub fn shares(logarithms: &[u8; 256], nodes: &[u8]) -> [usize; Limits::DATA_MOST]
     requires { ⌜ IsLogarithms (now logarithms) × Nodes (now nodes) × Rising (now nodes) ⌝ }
     ensures { λ r. ⌜ Shares (now (nodes .entry)) r ⌝ }
 {
-    let mut r = [0usize; 12];
+    let mut r = [0usize; Limits::DATA_MOST];
     let mut q = 0;
     while q < nodes.len() {
         r[q] = share_of(logarithms, nodes, q + 1);
@@ -138,9 +146,9 @@ pub fn recover_row(
     powers: &[u8; 255],
     logarithms: &[u8; 256],
     nodes: &[u8],
-    shares: &[usize; 12],
+    shares: &[usize; Limits::DATA_MOST],
     j: usize,
-) -> [u8; 12]
+) -> [u8; Limits::DATA_MOST]
     requires { ⌜ IsPowers (now powers) × IsLogarithms (now logarithms) × Nodes (now nodes) × Apart (now nodes) j × (1 ≤ j) × (j ≤ 256)
         × Shares (now nodes) (now shares) ⌝ }
     ensures { λ r. ⌜ ((q : ℕ) → 1 ≤ q → q ≤ length (now (nodes .entry)) → nth r q ≡ Decode.recover (length (now (nodes .entry))) (nth (now (nodes .entry))) j q)
@@ -149,7 +157,7 @@ pub fn recover_row(
     let t = (j - 1) as u8;
     let k = nodes.len();
     let all = over(others(logarithms, nodes, k + 1, j), scale(logarithms, k, j));
-    let mut r = [0u8; 12];
+    let mut r = [0u8; Limits::DATA_MOST];
     let mut q = 0;
     while q < k {
         let own = logarithm(logarithms, t ^ (nodes[q] - 1));
@@ -160,11 +168,11 @@ pub fn recover_row(
 }
 
 // The weight 1 at place q, from 0, and 0 at the others.
-pub fn unit(q: usize) -> [u8; 12]
-    requires { ⌜ q < 12 ⌝ }
+pub fn unit(q: usize) -> [u8; Limits::DATA_MOST]
+    requires { ⌜ q < dataLimit ⌝ }
     ensures { λ r. ⌜ ((i : ℕ) → getD r i 0 ≡ unitWeight q i) ⌝ }
 {
-    let mut r = [0u8; 12];
+    let mut r = [0u8; Limits::DATA_MOST];
     r[q] = 1;
     r
 }

@@ -16,9 +16,16 @@ mixed b t nodes weights p = sum (length nodes) (λ q. product (nth weights q) (b
 
 -- ---- what a call is lent
 
--- at most 12 nodes, numbered from 1
+-- a sum is of at most twelve blocks, three groups of four, which are of at most 4,096 bytes: document 01's limits of k and B
+abbrev pub sourceLimit : ℕ
+sourceLimit = 12
+
+abbrev pub lengthLimit : ℕ
+lengthLimit = 4096
+
+-- no more nodes, numbered from 1
 pub record Nodes (nodes : List ℕ) : Type 0 where
-  pub few : length nodes ≤ 12
+  pub few : length nodes ≤ sourceLimit
   pub from : (l : ℕ) → l < length nodes → 1 ≤ getD nodes l 0
 
 -- t has the nodes' blocks of b bytes
@@ -27,4 +34,4 @@ pub record HasBlocks (b : ℕ) (t nodes : List ℕ) : Type 0 where
 
 -- m rows of twelve weights, of which those past the first k are 0
 pub record Rows (m k : ℕ) (rows : List ℕ) : Type 0 where
-  pub zero : (j q : ℕ) → j < m → k ≤ q → q < 12 → getD rows (j * 12 + q) 0 ≡ 0
+  pub zero : (j q : ℕ) → j < m → k ≤ q → q < sourceLimit → getD rows (j * sourceLimit + q) 0 ≡ 0

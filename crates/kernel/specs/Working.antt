@@ -7,17 +7,17 @@ use lib.Bits.{bitXor}
 use lib.Dec.{ltb}
 use lib.ListN.{length, getD}
 use Rattle.gf256.specs.Field.{double, product, sum}
-use Rattle.kernel.specs.Combine.{nth}
+use Rattle.kernel.specs.Combine.{nth, sourceLimit}
 use Rattle.lanes.specs.Lanes.{lane, chosen}
 
 -- byte p of the sum of the blocks that begin at the starts, each times its weight
 abbrev pub combined : List ℕ → List ℕ → List ℕ → ℕ → ℕ
 combined t starts weights p = sum (length starts) (λ q. product (nth weights q) (getD t (nth starts q + p) 0))
 
--- twelve sources, of n bytes each
+-- a whole list of sources, of n bytes each
 pub record Sources (n : ℕ) (t starts : List ℕ) : Type 0 where
-  pub twelve : length starts ≡ 12
-  pub fits : (q : ℕ) → q < 12 → getD starts q 0 + n ≤ length t
+  pub twelve : length starts ≡ sourceLimit
+  pub fits : (q : ℕ) → q < sourceLimit → getD starts q 0 + n ≤ length t
 
 -- byte i of the sums of the group that g groups stand before: of the n bytes of its four sources from place p on
 unfoldable pub groupSum : List ℕ → List ℕ → ℕ → ℕ → ℕ → ℕ → ℕ

@@ -7,12 +7,15 @@ ghost use mathlib.Core.Path.{_≡_};
 ghost use Prim.Native.Nat.{ℕ, _+_, _*_, _≤_, _<_};
 ghost use lib.ListN.{length, getD};
 ghost use Rattle.blocks.specs.Blocks.{table, block};
-ghost use Rattle.kernel.specs.Combine.{mixed, HasBlocks, Rows, Nodes};
+ghost use Rattle.kernel.specs.Combine.{sourceLimit, lengthLimit, mixed, HasBlocks, Rows, Nodes};
 ghost use Rattle.kernel.specs.Working.{combined, Sources, Zeroed, Filled, startOf};
 
 mod bits; // bits.rt: one block's part of a tile
 mod plan; // plan.rt: which sums the weights choose
 mod sums; // sums.rt: the sums of a tile
+
+// How many blocks a sum is of at most.
+pub const SOURCES: usize = 12;
 
 // The n bytes from place p on of each of the m blocks of out.
 fn fill_all(out: &mut [u8], m: usize, b: usize, p: usize, n: usize, s: &[u8], plan: &[u32; 768])
@@ -38,9 +41,9 @@ fn tile_of(n: usize) -> usize
 
 // Each of the m blocks of out, of b bytes, becomes the sum of the twelve blocks of t at the starts, each times its weight: block j has row j of the
 // rows. (The sums of a tile take 12,288 bytes; with 8 more they lie even on the stack, which is worth a twelfth of the time.)
-fn combine(out: &mut [u8], m: usize, b: usize, t: &[u8], starts: &[usize; 12], rows: &[u8])
-    requires { ⌜ (m ≤ 256) × (length (now out) ≡ m * b) × (length (now rows) ≡ m * 12) × Sources b (now t) (now starts) ⌝ }
-    ensures { λ _. ⌜ now (out .exit) ≡ table m b (λ j. combined (now (t .entry)) (now (starts .entry)) (block 12 j (now (rows .entry)))) ⌝ }
+fn combine(out: &mut [u8], m: usize, b: usize, t: &[u8], starts: &[usize; SOURCES], rows: &[u8])
+    requires { ⌜ (m ≤ 256) × (length (now out) ≡ m * b) × (length (now rows) ≡ m * sourceLimit) × Sources b (now t) (now starts) ⌝ }
+    ensures { λ _. ⌜ now (out .exit) ≡ table m b (λ j. combined (now (t .entry)) (now (starts .entry)) (block sourceLimit j (now (rows .entry)))) ⌝ }
 {
     let mut s = [0u8; 12296];
     let plan = plan::pack_all(rows, m);
@@ -55,7 +58,7 @@ fn combine(out: &mut [u8], m: usize, b: usize, t: &[u8], starts: &[usize; 12], r
 
 // Where the block of the qth of the nodes starts, q from 0; of none 0.
 fn start_of(nodes: &[u8], b: usize, q: usize) -> usize
-    requires { ⌜ Nodes (now nodes) × (b ≤ 4096) ⌝ }
+    requires { ⌜ Nodes (now nodes) × (b ≤ lengthLimit) ⌝ }
     ensures { λ r. ⌜ r ≡ startOf (now (nodes .entry)) b q ⌝ }
 {
     if nodes.len() <= q {
@@ -65,13 +68,13 @@ fn start_of(nodes: &[u8], b: usize, q: usize) -> usize
     before as usize * b
 }
 
-fn starts_of(nodes: &[u8], b: usize) -> [usize; 12]
-    requires { ⌜ Nodes (now nodes) × (b ≤ 4096) ⌝ }
-    ensures { λ r. ⌜ ((q : ℕ) → q < 12 → getD r q 0 ≡ startOf (now (nodes .entry)) b q) ⌝ }
+fn starts_of(nodes: &[u8], b: usize) -> [usize; SOURCES]
+    requires { ⌜ Nodes (now nodes) × (b ≤ lengthLimit) ⌝ }
+    ensures { λ r. ⌜ ((q : ℕ) → q < sourceLimit → getD r q 0 ≡ startOf (now (nodes .entry)) b q) ⌝ }
 {
-    let mut r = [0usize; 12];
+    let mut r = [0usize; SOURCES];
     let mut q = 0;
-    while q < 12 {
+    while q < SOURCES {
         r[q] = start_of(nodes, b, q);
         q += 1;
     }
@@ -80,9 +83,9 @@ fn starts_of(nodes: &[u8], b: usize) -> [usize; 12]
 
 // Each of the m blocks of out becomes the sum of the nodes' blocks in the table t, each times its weight. Weights past those of the nodes are 0.
 pub fn mix(out: &mut [u8], m: usize, b: usize, t: &[u8], nodes: &[u8], rows: &[u8])
-    requires { ⌜ Nodes (now nodes) × (1 ≤ length (now nodes)) × (m ≤ 256) × (b ≤ 4096) × (length (now out) ≡ m * b) × (length (now rows) ≡ m * 12)
-        × HasBlocks b (now t) (now nodes) × Rows m (length (now nodes)) (now rows) ⌝ }
-    ensures { λ _. ⌜ now (out .exit) ≡ table m b (λ j. mixed b (now (t .entry)) (now (nodes .entry)) (block 12 j (now (rows .entry)))) ⌝ }
+    requires { ⌜ Nodes (now nodes) × (1 ≤ length (now nodes)) × (m ≤ 256) × (b ≤ lengthLimit) × (length (now out) ≡ m * b)
+        × (length (now rows) ≡ m * sourceLimit) × HasBlocks b (now t) (now nodes) × Rows m (length (now nodes)) (now rows) ⌝ }
+    ensures { λ _. ⌜ now (out .exit) ≡ table m b (λ j. mixed b (now (t .entry)) (now (nodes .entry)) (block sourceLimit j (now (rows .entry)))) ⌝ }
 {
     let starts = starts_of(nodes, b);
     combine(out, m, b, t, &starts, rows);

@@ -2,6 +2,7 @@
 ghost use mathlib.Core.Path.{_≡_};
 ghost use Prim.Native.Nat.{ℕ, _+_, _*_, _≤_, _<_};
 ghost use lib.ListN.{length, getD};
+ghost use Rattle.kernel.specs.Combine.{sourceLimit};
 ghost use Rattle.kernel.specs.Working;
 ghost use Rattle.kernel.specs.Working.{packed};
 
@@ -22,7 +23,7 @@ fn pack(a: u8, b: u8, c: u8, d: u8) -> u32
 
 // The weights of the m blocks, twelve of each, four by four.
 pub fn pack_all(rows: &[u8], m: usize) -> [u32; 768]
-    requires { ⌜ (m ≤ 256) × (length (now rows) ≡ m * 12) ⌝ }
+    requires { ⌜ (m ≤ 256) × (length (now rows) ≡ m * sourceLimit) ⌝ }
     ensures { λ r. ⌜ ((i : ℕ) → i < 3 * m → getD r i 0 ≡ packed (getD (now (rows .entry)) (4 * i) 0) (getD (now (rows .entry)) (4 * i + 1) 0)
         (getD (now (rows .entry)) (4 * i + 2) 0) (getD (now (rows .entry)) (4 * i + 3) 0)) ⌝ }
 {

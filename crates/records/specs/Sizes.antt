@@ -3,18 +3,13 @@ use mathlib.Core.Bool.{Bool, _&&_}
 use Prim.Native.Nat.{ℕ, _-_}
 use lib.Dec.{leb, ltb}
 use Rattle.code.specs.Code.{codeSizes}
+pub use Rattle.code.specs.Code.{dataLimit, nodeLimit, blockLimit}
 use Rattle.entries.specs.Entries.{isUpTo}
 use Rattle.records.specs.declared.Sizes.{Sizes}
 
--- "clients m are 1 to 8"; "k is 2 to 12; n−k is 1 to 6", so there are at most 18 nodes
+-- "clients m are 1 to 8"
 abbrev pub clientLimit : ℕ
 clientLimit = 8
-
-abbrev pub dataLimit : ℕ
-dataLimit = 12
-
-abbrev pub nodeLimit : ℕ
-nodeLimit = 18
 
 -- "t_d, the node failures planned for, is 0 to n−k"; k, n and B as for the code
 unfoldable pub sizesWithin : Sizes → Bool

@@ -2,12 +2,13 @@
 ghost use mathlib.Core.Path.{_≡_};
 ghost use Prim.Native.Nat.{_*_, _≤_};
 ghost use Rattle.striperun.specs.Tables.{Within, Tables};
-ghost use Rattle.records.specs.Sizes.{nodeLimit};
+ghost use Rattle.records.specs.Sizes.{nodeLimit, blockLimit};
 use super::input::Input;
 use super::input::TURNS;
 use super::input::Taken;
 use super::show::put_played;
 use calls::Answer;
+use code::Limits;
 use format::output::flush;
 use format::output::put_text;
 use records::Refusal;
@@ -150,8 +151,8 @@ fn play_lent(
 }
 
 fn table_length(blocks: usize, b: usize) -> usize
-    requires { ⌜ (blocks ≤ nodeLimit) × (b ≤ 4096) ⌝ }
-    ensures { λ r. ⌜ (r ≡ blocks * b) × (r ≤ blocks * 4096) ⌝ }
+    requires { ⌜ (blocks ≤ nodeLimit) × (b ≤ blockLimit) ⌝ }
+    ensures { λ r. ⌜ (r ≡ blocks * b) × (r ≤ blocks * blockLimit) ⌝ }
 {
     blocks * b
 }
@@ -159,11 +160,11 @@ fn table_length(blocks: usize, b: usize) -> usize
 pub fn play_lines(z: Sizes, input: Input, buffer: &mut [u8], out: &mut [u8])
     requires { ⌜ Within z ⌝ }
 {
-    let mut blocks = [0u8; 73728];
-    let mut spare = [0xAAu8; 73728];
-    let mut differences = [0x55u8; 32768];
-    let mut value = [0u8; 4097];
-    let mut shown = [0u8; 4096];
+    let mut blocks = [0u8; Sizes::NODES * Limits::BLOCK_MOST];
+    let mut spare = [0xAAu8; Sizes::NODES * Limits::BLOCK_MOST];
+    let mut differences = [0x55u8; Sizes::CLIENTS * Limits::BLOCK_MOST];
+    let mut value = [0u8; Limits::BLOCK_MOST + 1];
+    let mut shown = [0u8; Limits::BLOCK_MOST];
     let b = z.b;
     let longer = b + 1;
     let of_nodes = table_length(z.n, b);

@@ -26,7 +26,8 @@ returns-2 c =
     let pre = at-start .pre in
     let inside = sym (at-outside .some-outside .ensures) ∙ at-set .before .if1 .left in
     let counted = at-size .size .ensures .0 ∙ ap size (at-set .set-of .ensures) in
-    rw counted (decoding-few (args .k) (args .n) (args .b) (args .nodes .now) (args .blocks .now) (args .out .now) (pre .0) (pre .1) (pre .2) inside (omega arith))
+    let few = decoding-few (args .k) (args .n) (args .b) (args .nodes .now) (args .blocks .now) (args .out .now) (pre .0) (pre .1) (pre .2) inside (omega arith) in
+    rw (few, ← counted)
 
 recover-table-requires : tie.Need-recover-table-requires
 recover-table-requires c κs =

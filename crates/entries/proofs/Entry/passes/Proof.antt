@@ -2,6 +2,7 @@
 use mathlib.Core.Path.{ap, _∙_}
 use borrow.Author.Needs.{needs}
 use Rattle.entries.specs.Entries.{sameId}
+use Rattle.entries.proofs.Tests.{tests}
 use Rattle.entries.proofs.Entry.passes.Statement.{statement}
 use Rattle.entries.proofs.Entry.passes.Tie as tie
 
@@ -25,5 +26,5 @@ passes-spec =
     (λ c. rw (c .before .before .before .test2 .given .1, ← c .before .is-recent .ensures, c .if1 .left))
     (λ c. rw (c .before .before .before .before .test3 .given .1, ← c .before .before .is-recent2 .ensures, c .before .if2 .taken) (c .same3 .ensures ∙ ap (λ x. sameId x (c .before .before .before .before .test3 .given .0 .0)) (c .before .before .before .before .before .before .id .ensures)))
     (λ c. rw (c .before .before .before .test3 .given .1, ← c .before .is-recent2 .ensures, c .if2 .left))
-    (λ c. rw (c .before .before .before .enum-told .given .1, ← c .before .before .is-recent3 .ensures, c .before .if3 .taken))
-    (λ c. rw (c .before .before .enum-told .given .1, ← c .before .is-recent3 .ensures, c .if3 .left)))
+    (λ c. rw (c .before .before .before .enum-told .given .1) (search tests))
+    (λ c. rw (c .before .before .enum-told .given .1) (search tests)))

@@ -37,7 +37,8 @@ returns c =
     let a = picked .before .before .before .args in
     let w = seenWhole (a .z) (a .nodes) (a .client) (a .blocks .now) (a .spare .now) in
     let many : counted .size .result ≡ size (pickedSet (a .z) (w .nodes)) = counted .size .ensures .0 ∙ ap size (picked .picked-set .ensures) in
-    picks-refused (a .z) (a .nodes) (c .refused .ensures) (rw many (held-few (a .z) (a .epoch .0) w (omega (arith, needed .needed-size .ensures, c .before .if1 .taken))))
+    let few = held-few (a .z) (a .epoch .0) w (omega (arith, needed .needed-size .ensures, c .before .if1 .taken)) in
+    picks-refused (a .z) (a .nodes) (c .refused .ensures) (rw (← few, ← many))
 
 recover-table-requires : tie.Need-recover-table-requires
 recover-table-requires c κs =
