@@ -1,7 +1,8 @@
-//! What a swap, an add and a whole rebuild cost on records by value in the largest stripe, beside the same calls in plain Rust (`plain.rs`), in one
-//! run, on tables at the same places of a page. Both repeat a swap or an add by the same client at one node, whose list has 0 to 15 entries, so that
-//! crossing from Rust costs nothing. Then a swap by the entry point on lent tables, which both make anew for each swap; and a call that only asks.
+//! What a swap, an add and a whole rebuild cost on lent tables in the largest stripe, beside the same calls in plain Rust (`plain.rs`), in one run, on
+//! tables at the same places of a page. Then the same on records by value: both repeat a swap or an add by the same client at one node, whose list has 0
+//! to 15 entries, so that crossing from Rust costs nothing.
 use plain::{Client, Node, Sizes, Stripe};
+use std::cmp::Ordering;
 use std::hint::black_box;
 use timing::{best_of, met, noise};
 
@@ -13,6 +14,13 @@ const N: usize = 18;
 const LOST: usize = N - K;
 const LENGTHS: [usize; 3] = [1, 512, 4096];
 const TIMES: usize = 256;
+const CLIENTS: usize = 8;
+
+// What is done on lent tables, by the number of callbench's Work.
+const DUES: u8 = 0;
+const SWAPS: u8 = 1;
+const ADDS: u8 = 2;
+const REBUILD: u8 = 3;
 const PAGE: usize = 4096;
 
 #[link(name = "callbench", kind = "static")]
@@ -42,20 +50,9 @@ extern "C" {
         spare: *mut u8,
         spare_length: usize,
     ) -> u8;
-    fn callbench_lent_swap(
-        times: usize,
-        b: usize,
-        value: *const u8,
-        value_length: usize,
-        blocks: *mut u8,
-        blocks_length: usize,
-        spare: *mut u8,
-        spare_length: usize,
-        differences: *mut u8,
-        differences_length: usize,
-    ) -> u8;
-    fn callbench_lent_dues(
-        times: usize,
+    fn callbench_lent(
+        number: u8,
+        calls: usize,
         b: usize,
         value: *const u8,
         value_length: usize,
@@ -67,19 +64,6 @@ extern "C" {
         differences_length: usize,
     ) -> u8;
 }
-
-type Lent = unsafe extern "C" fn(
-    usize,
-    usize,
-    *const u8,
-    usize,
-    *mut u8,
-    usize,
-    *mut u8,
-    usize,
-    *mut u8,
-    usize,
-) -> u8;
 
 /// Bytes that begin at a fixed place of a page, the same for every buffer of that place.
 struct Buffer {
@@ -105,7 +89,7 @@ impl Buffer {
     }
 }
 
-/// The tables of one stripe with one client, and a value to swap in.
+/// The tables of one stripe, and a value to swap in.
 struct Tables {
     value: Buffer,
     blocks: Buffer,
@@ -114,12 +98,12 @@ struct Tables {
 }
 
 impl Tables {
-    fn new(b: usize) -> Self {
+    fn new(b: usize, clients: usize) -> Self {
         Tables {
             value: Buffer::new(b, 0),
             blocks: Buffer::new(N * b, 1024),
             spare: Buffer::new(N * b, 2048),
-            differences: Buffer::new(b, 3072),
+            differences: Buffer::new(clients * b, 3072),
         }
     }
 }
@@ -177,7 +161,7 @@ fn proved_rebuild(b: usize, tables: &mut Tables) {
     });
 }
 
-fn lent(call: Lent, b: usize, tables: &mut Tables) {
+fn proved_lent(number: u8, calls: usize, b: usize, tables: &mut Tables) {
     let (value, blocks, spare, differences) = (
         tables.value.get(),
         tables.blocks.get(),
@@ -185,8 +169,9 @@ fn lent(call: Lent, b: usize, tables: &mut Tables) {
         tables.differences.get(),
     );
     accepted(unsafe {
-        call(
-            TIMES,
+        callbench_lent(
+            number,
+            calls,
             b,
             value.as_ptr(),
             value.len(),
@@ -200,27 +185,28 @@ fn lent(call: Lent, b: usize, tables: &mut Tables) {
     });
 }
 
-fn lent_swaps(b: usize, tables: &mut Tables) {
-    lent(callbench_lent_swap, b, tables);
-}
-
 // The same in plain Rust.
 
-fn sizes(b: usize) -> Sizes {
+fn sizes(b: usize, m: usize) -> Sizes {
     Sizes {
         k: K,
         n: N,
         b,
         failures: LOST,
-        m: 1,
+        m,
     }
 }
 
-/// Plays on a stripe of these nodes and a fresh client.
-fn plainly(tables: &mut Tables, nodes: &mut [Node], play: impl FnOnce(&mut Stripe, &[u8])) {
+/// Plays on a stripe of these nodes and clients.
+fn plainly(
+    tables: &mut Tables,
+    nodes: &mut [Node],
+    clients: &mut [Client],
+    play: impl FnOnce(&mut Stripe, &[u8]),
+) {
     let mut stripe = Stripe {
         nodes,
-        clients: &mut [Client::fresh()],
+        clients,
         blocks: tables.blocks.get(),
         spare: tables.spare.get(),
         differences: tables.differences.get(),
@@ -242,81 +228,159 @@ fn repeated(stripe: &mut Stripe, at: usize, mut call: impl FnMut(&mut Stripe) ->
 }
 
 fn plain_swaps(b: usize, tables: &mut Tables) {
-    let z = sizes(b);
-    plainly(tables, &mut [Node::fresh(); N], |stripe, value| {
+    let z = sizes(b, 1);
+    plainly(tables, &mut [Node::fresh(); N], &mut [Client::fresh()], |stripe, value| {
         repeated(stripe, 0, |stripe| stripe.swap(&z, 1, 1, value))
     });
 }
 
 fn plain_adds(b: usize, tables: &mut Tables) {
-    let z = sizes(b);
-    plainly(tables, &mut [Node::fresh(); N], |stripe, _| {
-        stripe.clients[0] = Client::writing();
+    let z = sizes(b, 1);
+    plainly(tables, &mut [Node::fresh(); N], &mut [Client::fresh()], |stripe, _| {
+        stripe.clients[0] = Client::writing(1);
         repeated(stripe, K, |stripe| stripe.add(&z, 1, K as u8 + 1))
     });
 }
 
 fn plain_rebuild(b: usize, tables: &mut Tables) {
-    let z = sizes(b);
+    let z = sizes(b, 1);
     let mut nodes = [Node::fresh(); N];
     nodes[..LOST].fill(Node::failed());
-    plainly(tables, &mut nodes, |stripe, _| {
+    plainly(tables, &mut nodes, &mut [Client::fresh()], |stripe, _| {
         (0..N).for_each(|_| accepted(stripe.lock(&z, 1)));
         accepted(stripe.pick(&z, 1));
         (0..3 * N).for_each(|_| accepted(stripe.advance(&z, 1)));
     });
 }
 
-fn plain_lent_swaps(b: usize, tables: &mut Tables) {
-    let z = sizes(b);
-    for _ in 0..TIMES {
-        plainly(tables, &mut [Node::fresh(); N], |stripe, value| {
-            accepted(stripe.swap(&z, 1, 1, value))
-        });
-    }
+fn plain_lent_swaps(calls: usize, b: usize, tables: &mut Tables) {
+    let z = sizes(b, CLIENTS);
+    let (nodes, clients) = (&mut [Node::fresh(); N], &mut [Client::fresh(); CLIENTS]);
+    plainly(tables, nodes, clients, |stripe, value| {
+        for c in 1..=calls {
+            accepted(stripe.swap(&z, c as u8, 1, value));
+        }
+    });
 }
 
-type Calls = fn(usize, &mut Tables);
+fn plain_lent_adds(calls: usize, b: usize, tables: &mut Tables) {
+    let z = sizes(b, CLIENTS);
+    let nodes = &mut [Node::fresh(); N];
+    let clients = &mut std::array::from_fn::<_, CLIENTS, _>(|c| Client::writing(c as u8 + 1));
+    plainly(tables, nodes, clients, |stripe, _| {
+        for i in 0..calls {
+            let (c, j) = (i % CLIENTS + 1, K + 1 + i / CLIENTS);
+            accepted(stripe.add(&z, c as u8, j as u8));
+        }
+    });
+}
 
-/// A line of the table. Both leave the same bytes. Returns the ratio.
-fn line(name: &str, b: usize, times: usize, proved: Calls, plain: Calls) -> f64 {
-    let (mut ours, mut theirs) = (Tables::new(b), Tables::new(b));
+fn plain_lent_rebuild(calls: usize, b: usize, tables: &mut Tables) {
+    let z = sizes(b, CLIENTS);
+    let (nodes, clients) = (&mut [Node::fresh(); N], &mut [Client::fresh(); CLIENTS]);
+    nodes[..LOST].fill(Node::failed());
+    plainly(tables, nodes, clients, |stripe, _| {
+        for i in 0..calls {
+            accepted(match i.cmp(&N) {
+                Ordering::Less => stripe.lock(&z, 1),
+                Ordering::Equal => stripe.pick(&z, 1),
+                Ordering::Greater => stripe.advance(&z, 1),
+            });
+        }
+    });
+}
+
+type Calls<'a> = &'a dyn Fn(usize, &mut Tables);
+
+/// ns of each: the proved one and the plain one, on tables of so many clients. Both leave the same bytes.
+fn timed(b: usize, clients: usize, proved: Calls, plain: Calls) -> [f64; 2] {
+    let (mut ours, mut theirs) = (Tables::new(b, clients), Tables::new(b, clients));
     proved(b, &mut ours);
     plain(b, &mut theirs);
     assert_eq!(ours.blocks.get(), theirs.blocks.get());
     assert_eq!(ours.spare.get(), theirs.spare.get());
     assert_eq!(ours.differences.get(), theirs.differences.get());
-    let [proved, plain] = best_of(
+    best_of(
         || proved(b, black_box(&mut ours)),
         || plain(b, black_box(&mut theirs)),
     )
-    .map(|seconds| seconds / times as f64 * 1e9);
+    .map(|seconds| seconds * 1e9)
+}
+
+/// A line of the table. Returns the ratio.
+fn line(name: &str, b: usize, [proved, plain]: [f64; 2]) -> f64 {
     let ratio = proved / plain;
-    println!("{name:<8}{b:>6}{proved:>12.0}{plain:>12.0}{ratio:>8.2}");
+    println!("{name:<18}{b:>6}{proved:>12.0}{plain:>12.0}{ratio:>8.2}");
     ratio
 }
 
-/// What a call that only asks costs on lent tables: whether a node is due, 16 times on tables that are made for it.
-fn asking() {
-    let mut tables = Tables::new(1);
-    let [seconds, _] = best_of(
-        || lent(callbench_lent_dues, 1, black_box(&mut tables)),
-        || (),
-    );
-    let one = seconds / (16 * TIMES) as f64 * 1e9;
-    println!("a call that only asks, on lent tables: {one:.0} ns");
+/// A call on lent tables, by as many as are made on one: the time of the first and of making the tables is taken off.
+fn lent_calls(
+    b: usize,
+    number: u8,
+    most: usize,
+    plain: fn(usize, usize, &mut Tables),
+) -> [f64; 2] {
+    let [one, all] = [1, most].map(|calls| {
+        timed(
+            b,
+            CLIENTS,
+            &|b, tables| proved_lent(number, calls, b, tables),
+            &|b, tables| plain(calls, b, tables),
+        )
+    });
+    [0, 1].map(|i| (all[i] - one[i]) / (most - 1) as f64)
+}
+
+/// A whole rebuild on lent tables that are made for it.
+fn lent_rebuild(b: usize) -> [f64; 2] {
+    timed(
+        b,
+        CLIENTS,
+        &|b, tables| proved_lent(REBUILD, 4 * N + 1, b, tables),
+        &|b, tables| plain_lent_rebuild(4 * N + 1, b, tables),
+    )
+}
+
+fn by_value(b: usize, times: usize, proved: Calls, plain: Calls) -> [f64; 2] {
+    timed(b, 1, proved, plain).map(|all| all / times as f64)
 }
 
 fn main() {
-    println!("ns            B      proved  plain Rust   ratio");
-    let swaps = LENGTHS.map(|b| line("swap", b, TIMES, proved_swaps, plain_swaps));
-    let adds = LENGTHS.map(|b| line("add", b, TIMES, proved_adds, plain_adds));
-    let rebuilds = LENGTHS.map(|b| line("rebuild", b, 1, proved_rebuild, plain_rebuild));
+    println!("ns                      B      proved  plain Rust   ratio");
+    let swaps = LENGTHS.map(|b| line("swap", b, lent_calls(b, SWAPS, CLIENTS, plain_lent_swaps)));
+    let adds = LENGTHS.map(|b| {
+        line(
+            "add",
+            b,
+            lent_calls(b, ADDS, LOST * CLIENTS, plain_lent_adds),
+        )
+    });
+    let rebuilds = LENGTHS.map(|b| line("rebuild", b, lent_rebuild(b)));
     for b in LENGTHS {
-        line("lent", b, TIMES, lent_swaps, plain_lent_swaps);
+        line(
+            "swap, by value",
+            b,
+            by_value(b, TIMES, &proved_swaps, &plain_swaps),
+        );
     }
-    asking();
-    println!("(12,18), one client, all in the cache; the proved calls on records by value, but \"lent\", a swap by the entry point on lent tables, which are made anew each time. A rebuild is 18 locks, a pick, 18 writes, 18 settles and 18 unlocks with 6 nodes lost.");
+    for b in LENGTHS {
+        line(
+            "add, by value",
+            b,
+            by_value(b, TIMES, &proved_adds, &plain_adds),
+        );
+    }
+    for b in LENGTHS {
+        line(
+            "rebuild, by value",
+            b,
+            by_value(b, 1, &proved_rebuild, &plain_rebuild),
+        );
+    }
+    let [asking, _] = lent_calls(1, DUES, TIMES, |_, _, _| ());
+    println!("a call that only asks whether a node is due: {asking:.0} ns");
+    println!("(12,18), all in the cache, on lent tables of 18 nodes and 8 clients. The swaps are at one node, one by each client; each client adds at the 6 redundant nodes; the making of the tables is not in their time, nor the first call. A rebuild is 18 locks, a pick, 18 writes, 18 settles and 18 unlocks with 6 nodes lost, and the making of its tables. By value: one client, at one node.");
     let aims = [
         ("swap", swaps, [2.0, 1.25]),
         ("add", adds, [1.8, 1.10]),
@@ -324,7 +388,7 @@ fn main() {
     ];
     for (name, ratios, [small, large]) in aims {
         for (b, ratio, most) in [(1, ratios[0], small), (4096, ratios[2], large)] {
-            let what = format!("{name} at {b}, times plain Rust's");
+            let what = format!("{name} on lent tables at {b}, times plain Rust's");
             met(&what, ratio, &format!("at most {most}"), ratio <= most);
         }
     }

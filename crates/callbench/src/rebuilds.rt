@@ -16,7 +16,7 @@ use stripe::Nodes;
 const CALLS: usize = 73;
 
 // Nodes 1 to 6 have failed, the others are fresh.
-fn failed() -> Nodes {
+pub(crate) fn failed() -> Nodes {
     let node = NodeRecord::fresh();
     let items = [node; 18];
     let mut nodes = Nodes { items };
@@ -71,7 +71,7 @@ fn call(z: Sizes, last: Played, blocks: &mut [u8], spare: &mut [u8]) -> Played {
 
 #[no_mangle]
 pub extern "C" fn callbench_rebuild(b: usize, blocks: &mut [u8], spare: &mut [u8]) -> u8 {
-    let z = sizes(b);
+    let z = sizes(b, 1);
     let mut last = begun();
     for _ in 0..CALLS {
         last = call(z, last, blocks, spare);

@@ -58,7 +58,7 @@ pub extern "C" fn callbench_swap(
     blocks: &mut [u8],
     differences: &mut [u8],
 ) -> u8 {
-    let z = sizes(b);
+    let z = sizes(b, 1);
     let start = fresh();
     let mut last = start;
     for _ in 0..times {
@@ -79,10 +79,10 @@ fn add(z: Sizes, start: AtNode, last: AtNode, blocks: &mut [u8], differences: &[
     writing::add(z, 1, 13, node, client, blocks, differences)
 }
 
-// A client with a write in hand, the first at position 1.
-fn writing_client() -> ClientRecord {
+// Client c with a write in hand, the first at position 1.
+pub(crate) fn writing_client(c: u8) -> ClientRecord {
     let id = WriteId {
-        client: 1,
+        client: c,
         position: 1,
         number: WriteNumber(0),
     };
@@ -92,7 +92,7 @@ fn writing_client() -> ClientRecord {
 // A fresh node, and such a client.
 fn begun() -> AtNode {
     let node = NodeRecord::fresh();
-    let client = writing_client();
+    let client = writing_client(1);
     AtNode {
         answer: Answer::Accepted,
         node: node,
@@ -107,7 +107,7 @@ pub extern "C" fn callbench_add(
     differences: &[u8],
     blocks: &mut [u8],
 ) -> u8 {
-    let z = sizes(b);
+    let z = sizes(b, 1);
     let start = begun();
     let mut last = start;
     for _ in 0..times {
