@@ -166,10 +166,6 @@ pub struct Node {
 }
 
 impl Node {
-    pub fn is_full(&self) -> bool {
-        self.entries.is_full()
-    }
-
     pub fn fresh() -> Self {
         Node::empty(Opmode::Norm)
     }

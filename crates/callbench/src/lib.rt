@@ -1,22 +1,9 @@
-// The calls many times over, for the benchmark to time. Each function answers the number of a refusal: 0 if all were accepted.
-mod loans; // loans.rt: calls on lent tables, of each kind
-mod rebuilds; // rebuilds.rt: a whole rebuild by value
-mod runs; // runs.rt: calls on lent tables, one after another
+// Calls on lent tables, one after another, for the benchmark to time.
+mod runs; // runs.rt: the calls
+mod starts; // starts.rt: what each kind of work begins with
 mod turns; // turns.rt: which call is next
-mod writes; // writes.rt: swaps and adds by value
 
 use records::Sizes;
-
-// The largest stripe, with blocks of b bytes and m clients.
-fn sizes(b: usize, m: usize) -> Sizes {
-    Sizes {
-        k: 12,
-        n: 18,
-        b: b,
-        failures: 6,
-        m: m,
-    }
-}
 
 enum Work {
     Dues,

@@ -1,4 +1,4 @@
-// Calls on lent tables, one after another, on tables of the function's own. Walked by a law.
+// Calls one after another on tables that are the function's own, and are lent for each call. Walked by a law.
 ghost use mathlib.Core.Path.{_≡_};
 use crate::Run;
 use records::ClientRecord;

@@ -2,14 +2,11 @@
 use mathlib.Core.Path.{_≡_, refl}
 use lib.Dec.{eqb}
 use contract.Running.{givenOf, tables, tablesOf}
-use denote.Builtin.{bool}
 use denote.Triple.Spec.{tripleOf}
 use denote.Triple.Table.{entered, cited}
 use Rattle.calls.proofs.Answer as answer
 use Rattle.lent.proofs.Elem.{Rec, rec-struct}
-use Rattle.lent.proofs.Entry.{Entry}
 use Rattle.lent.proofs.Local.{Table, meets}
-use Rattle.lent.proofs.Side.{Ask, Ask2}
 use Rattle.records.proofs.ClientRecord as client
 use Rattle.records.proofs.NodeRecord as node
 use Rattle.shelf.proofs.pick.Met as picked-thm

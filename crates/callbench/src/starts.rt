@@ -1,15 +1,29 @@
-// Calls on lent tables of 18 nodes and 8 clients, which are made for them.
+// What each kind of work begins with, in the largest stripe of 8 clients.
 use crate::Run;
 use crate::Work;
-use crate::rebuilds::failed;
 use crate::runs::run;
-use crate::sizes;
-use crate::writes::writing_client;
+use entries::Epoch;
+use entries::Previous;
+use entries::WriteId;
+use entries::WriteNumber;
+use records::ClientRecord;
 use records::NodeRecord;
+use records::Sizes;
+use records::Write;
 use step::Clients;
 use stripe::Nodes;
 
-// Each client has a write in hand, at position 1.
+// Client c with a write in hand, the first at position 1.
+fn writing_client(c: u8) -> ClientRecord {
+    let id = WriteId {
+        client: c,
+        position: 1,
+        number: WriteNumber(0),
+    };
+    ClientRecord::fresh().begin(Write::new(id, Previous::Nothing, Epoch(0)))
+}
+
+// All clients with such a write.
 fn writing() -> Clients {
     let mut clients = Clients::fresh();
     for c in 1..9u8 {
@@ -24,6 +38,15 @@ fn fresh() -> Nodes {
     Nodes { items }
 }
 
+// Nodes 1 to 6 have failed, the others are fresh.
+fn failed() -> Nodes {
+    let mut nodes = fresh();
+    for j in 1..7 {
+        nodes = nodes.set(j, NodeRecord::failed());
+    }
+    nodes
+}
+
 impl Work {
     fn numbered(number: u8) -> Self {
         match number {
@@ -34,7 +57,6 @@ impl Work {
         }
     }
 
-    // The nodes before the first call.
     fn nodes(self) -> Nodes {
         match self {
             Work::Rebuild => failed(),
@@ -42,7 +64,6 @@ impl Work {
         }
     }
 
-    // The clients.
     fn clients(self) -> Clients {
         match self {
             Work::Adds => writing(),
@@ -64,7 +85,13 @@ impl Work {
             Work::Rebuild => 55,
             _ => 0,
         };
-        let z = sizes(b, 8);
+        let z = Sizes {
+            k: 12,
+            n: 18,
+            b: b,
+            failures: 6,
+            m: 8,
+        };
         Run {
             z: z,
             work: self,
@@ -78,11 +105,11 @@ impl Work {
     }
 }
 
-// Calls of the work of that number. The work is whether a node is due; swaps at node 1, 8 at most; adds at nodes 13 to 18, 48 at most; or a rebuild of
-// nodes 1 to 6 by client 1, of 73 calls: 18 locks, a pick, 18 writes, 18 settles and 18 unlocks.
+// So many calls of the work of that number: whether a node is due; swaps at node 1, 8 at most; adds at nodes 13 to 18, 48 at most; or the 73 calls of a
+// rebuild of nodes 1 to 6, which are 18 locks, a pick, 18 writes, 18 settles and 18 unlocks. The number of the first refusal, or 0.
 #[no_mangle]
-pub extern "C" fn callbench_lent(
-    number: u8,
+pub extern "C" fn callbench_calls(
+    work: u8,
     calls: usize,
     b: usize,
     value: &[u8],
@@ -90,15 +117,15 @@ pub extern "C" fn callbench_lent(
     spare: &mut [u8],
     differences: &mut [u8],
 ) -> u8 {
-    let work = Work::numbered(number);
-    let nodes = work.nodes();
-    let clients = work.clients();
-    let start = work.start(calls, b);
-    let node_items = nodes.items;
-    let client_items = clients.items;
+    let kind = Work::numbered(work);
+    let nodes = kind.nodes();
+    let clients = kind.clients();
+    let start = kind.start(calls, b);
+    let node_records = nodes.items;
+    let client_records = clients.items;
     let end = run(
-        node_items,
-        client_items,
+        node_records,
+        client_records,
         blocks,
         spare,
         differences,
