@@ -1,7 +1,7 @@
-//! What a swap, an add and a whole rebuild cost on records by value in the largest stripe, beside the same calls in plain Rust (`plain.rs`), in one
-//! run, on tables at the same places of a page. Both repeat a swap or an add by the same client at one node, whose list has 0 to 15 entries, so that
-//! crossing from Rust costs nothing. Then a swap by the entry point on lent tables, which both make anew for each swap; and a call that only asks.
+//! What a swap, an add and a whole rebuild cost on lent tables in the largest stripe, beside the same calls in plain Rust (`plain.rs`), in one run, on
+//! tables at the same places of a page.
 use plain::{Client, Node, Sizes, Stripe};
+use std::cmp::Ordering;
 use std::hint::black_box;
 use timing::{best_of, met, noise};
 
@@ -11,51 +11,15 @@ mod timing;
 const K: usize = 12;
 const N: usize = 18;
 const LOST: usize = N - K;
+const CLIENTS: usize = 8;
 const LENGTHS: [usize; 3] = [1, 512, 4096];
-const TIMES: usize = 256;
 const PAGE: usize = 4096;
 
 #[link(name = "callbench", kind = "static")]
 extern "C" {
-    fn callbench_swap(
-        times: usize,
-        b: usize,
-        value: *const u8,
-        value_length: usize,
-        blocks: *mut u8,
-        blocks_length: usize,
-        differences: *mut u8,
-        differences_length: usize,
-    ) -> u8;
-    fn callbench_add(
-        times: usize,
-        b: usize,
-        differences: *const u8,
-        differences_length: usize,
-        blocks: *mut u8,
-        blocks_length: usize,
-    ) -> u8;
-    fn callbench_rebuild(
-        b: usize,
-        blocks: *mut u8,
-        blocks_length: usize,
-        spare: *mut u8,
-        spare_length: usize,
-    ) -> u8;
-    fn callbench_lent_swap(
-        times: usize,
-        b: usize,
-        value: *const u8,
-        value_length: usize,
-        blocks: *mut u8,
-        blocks_length: usize,
-        spare: *mut u8,
-        spare_length: usize,
-        differences: *mut u8,
-        differences_length: usize,
-    ) -> u8;
-    fn callbench_lent_dues(
-        times: usize,
+    fn callbench_calls(
+        work: u8,
+        calls: usize,
         b: usize,
         value: *const u8,
         value_length: usize,
@@ -67,19 +31,6 @@ extern "C" {
         differences_length: usize,
     ) -> u8;
 }
-
-type Lent = unsafe extern "C" fn(
-    usize,
-    usize,
-    *const u8,
-    usize,
-    *mut u8,
-    usize,
-    *mut u8,
-    usize,
-    *mut u8,
-    usize,
-) -> u8;
 
 /// Bytes that begin at a fixed place of a page, the same for every buffer of that place.
 struct Buffer {
@@ -105,7 +56,7 @@ impl Buffer {
     }
 }
 
-/// The tables of one stripe with one client, and a value to swap in.
+/// The tables of one stripe, and a value to swap in. Those of the records are made for the calls.
 struct Tables {
     value: Buffer,
     blocks: Buffer,
@@ -119,7 +70,7 @@ impl Tables {
             value: Buffer::new(b, 0),
             blocks: Buffer::new(N * b, 1024),
             spare: Buffer::new(N * b, 2048),
-            differences: Buffer::new(b, 3072),
+            differences: Buffer::new(CLIENTS * b, 3072),
         }
     }
 }
@@ -128,56 +79,36 @@ fn accepted(number: u8) {
     assert_eq!(number, 0);
 }
 
-// The proved calls. Safety: each pointer and its length come from one slice, and the slices do not overlap.
-
-fn proved_swaps(b: usize, tables: &mut Tables) {
-    let (value, blocks, differences) = (
-        tables.value.get(),
-        tables.blocks.get(),
-        tables.differences.get(),
-    );
-    accepted(unsafe {
-        callbench_swap(
-            TIMES,
-            b,
-            value.as_ptr(),
-            value.len(),
-            blocks.as_mut_ptr(),
-            blocks.len(),
-            differences.as_mut_ptr(),
-            differences.len(),
-        )
-    });
+/// What is done: its number in callbench, the most calls on one set of tables, and the same in plain Rust.
+struct Work {
+    number: u8,
+    most: usize,
+    plain: fn(usize, usize, &mut Tables),
 }
 
-fn proved_adds(b: usize, tables: &mut Tables) {
-    let (blocks, differences) = (tables.blocks.get(), tables.differences.get());
-    accepted(unsafe {
-        callbench_add(
-            TIMES,
-            b,
-            differences.as_ptr(),
-            differences.len(),
-            blocks.as_mut_ptr(),
-            blocks.len(),
-        )
-    });
-}
+const DUES: Work = Work {
+    number: 0,
+    most: 256,
+    plain: |_, _, _| (),
+};
+const SWAPS: Work = Work {
+    number: 1,
+    most: CLIENTS,
+    plain: plain_swaps,
+};
+const ADDS: Work = Work {
+    number: 2,
+    most: LOST * CLIENTS,
+    plain: plain_adds,
+};
+const REBUILD: Work = Work {
+    number: 3,
+    most: 4 * N + 1,
+    plain: plain_rebuild,
+};
 
-fn proved_rebuild(b: usize, tables: &mut Tables) {
-    let (blocks, spare) = (tables.blocks.get(), tables.spare.get());
-    accepted(unsafe {
-        callbench_rebuild(
-            b,
-            blocks.as_mut_ptr(),
-            blocks.len(),
-            spare.as_mut_ptr(),
-            spare.len(),
-        )
-    });
-}
-
-fn lent(call: Lent, b: usize, tables: &mut Tables) {
+/// So many proved calls. Safety: each pointer and its length come from one slice, and the slices do not overlap.
+fn proved(number: u8, calls: usize, b: usize, tables: &mut Tables) {
     let (value, blocks, spare, differences) = (
         tables.value.get(),
         tables.blocks.get(),
@@ -185,8 +116,9 @@ fn lent(call: Lent, b: usize, tables: &mut Tables) {
         tables.differences.get(),
     );
     accepted(unsafe {
-        call(
-            TIMES,
+        callbench_calls(
+            number,
+            calls,
             b,
             value.as_ptr(),
             value.len(),
@@ -198,10 +130,6 @@ fn lent(call: Lent, b: usize, tables: &mut Tables) {
             differences.len(),
         )
     });
-}
-
-fn lent_swaps(b: usize, tables: &mut Tables) {
-    lent(callbench_lent_swap, b, tables);
 }
 
 // The same in plain Rust.
@@ -212,15 +140,20 @@ fn sizes(b: usize) -> Sizes {
         n: N,
         b,
         failures: LOST,
-        m: 1,
+        m: CLIENTS,
     }
 }
 
-/// Plays on a stripe of these nodes and a fresh client.
-fn plainly(tables: &mut Tables, nodes: &mut [Node], play: impl FnOnce(&mut Stripe, &[u8])) {
+/// Plays on a stripe of these nodes and clients.
+fn plainly(
+    tables: &mut Tables,
+    nodes: &mut [Node],
+    clients: &mut [Client],
+    play: impl FnOnce(&mut Stripe, &[u8]),
+) {
     let mut stripe = Stripe {
         nodes,
-        clients: &mut [Client::fresh()],
+        clients,
         blocks: tables.blocks.get(),
         spare: tables.spare.get(),
         differences: tables.differences.get(),
@@ -229,102 +162,95 @@ fn plainly(tables: &mut Tables, nodes: &mut [Node], play: impl FnOnce(&mut Strip
     black_box(&stripe.nodes);
 }
 
-/// Many times over by the client as it was, at a node that is fresh again once its list is full.
-fn repeated(stripe: &mut Stripe, at: usize, mut call: impl FnMut(&mut Stripe) -> u8) {
-    let client = stripe.clients[0];
-    for _ in 0..TIMES {
-        if stripe.nodes[at].is_full() {
-            stripe.nodes[at] = Node::fresh();
+/// At node 1, one by each client.
+fn plain_swaps(calls: usize, b: usize, tables: &mut Tables) {
+    let z = sizes(b);
+    let (nodes, clients) = (&mut [Node::fresh(); N], &mut [Client::fresh(); CLIENTS]);
+    plainly(tables, nodes, clients, |stripe, value| {
+        for c in 1..=calls {
+            accepted(stripe.swap(&z, c as u8, 1, value));
         }
-        stripe.clients[0] = client;
-        accepted(call(stripe));
-    }
-}
-
-fn plain_swaps(b: usize, tables: &mut Tables) {
-    let z = sizes(b);
-    plainly(tables, &mut [Node::fresh(); N], |stripe, value| {
-        repeated(stripe, 0, |stripe| stripe.swap(&z, 1, 1, value))
     });
 }
 
-fn plain_adds(b: usize, tables: &mut Tables) {
+/// By clients that have a write in hand, one by each at each redundant node.
+fn plain_adds(calls: usize, b: usize, tables: &mut Tables) {
     let z = sizes(b);
-    plainly(tables, &mut [Node::fresh(); N], |stripe, _| {
-        stripe.clients[0] = Client::writing();
-        repeated(stripe, K, |stripe| stripe.add(&z, 1, K as u8 + 1))
+    let nodes = &mut [Node::fresh(); N];
+    let clients = &mut std::array::from_fn::<_, CLIENTS, _>(|c| Client::writing(c as u8 + 1));
+    plainly(tables, nodes, clients, |stripe, _| {
+        for i in 0..calls {
+            let (c, j) = (i % CLIENTS + 1, K + 1 + i / CLIENTS);
+            accepted(stripe.add(&z, c as u8, j as u8));
+        }
     });
 }
 
-fn plain_rebuild(b: usize, tables: &mut Tables) {
+fn plain_rebuild(calls: usize, b: usize, tables: &mut Tables) {
     let z = sizes(b);
-    let mut nodes = [Node::fresh(); N];
+    let (nodes, clients) = (&mut [Node::fresh(); N], &mut [Client::fresh(); CLIENTS]);
     nodes[..LOST].fill(Node::failed());
-    plainly(tables, &mut nodes, |stripe, _| {
-        (0..N).for_each(|_| accepted(stripe.lock(&z, 1)));
-        accepted(stripe.pick(&z, 1));
-        (0..3 * N).for_each(|_| accepted(stripe.advance(&z, 1)));
+    plainly(tables, nodes, clients, |stripe, _| {
+        for i in 0..calls {
+            accepted(match i.cmp(&N) {
+                Ordering::Less => stripe.lock(&z, 1),
+                Ordering::Equal => stripe.pick(&z, 1),
+                Ordering::Greater => stripe.advance(&z, 1),
+            });
+        }
     });
 }
 
-fn plain_lent_swaps(b: usize, tables: &mut Tables) {
-    let z = sizes(b);
-    for _ in 0..TIMES {
-        plainly(tables, &mut [Node::fresh(); N], |stripe, value| {
-            accepted(stripe.swap(&z, 1, 1, value))
-        });
-    }
-}
-
-type Calls = fn(usize, &mut Tables);
-
-/// A line of the table. Both leave the same bytes. Returns the ratio.
-fn line(name: &str, b: usize, times: usize, proved: Calls, plain: Calls) -> f64 {
+/// ns of so many calls, with the making of the tables: proved, and in plain Rust.
+fn timed(work: &Work, calls: usize, b: usize) -> [f64; 2] {
     let (mut ours, mut theirs) = (Tables::new(b), Tables::new(b));
-    proved(b, &mut ours);
-    plain(b, &mut theirs);
-    assert_eq!(ours.blocks.get(), theirs.blocks.get());
-    assert_eq!(ours.spare.get(), theirs.spare.get());
-    assert_eq!(ours.differences.get(), theirs.differences.get());
-    let [proved, plain] = best_of(
-        || proved(b, black_box(&mut ours)),
-        || plain(b, black_box(&mut theirs)),
+    best_of(
+        || proved(work.number, calls, b, black_box(&mut ours)),
+        || (work.plain)(calls, b, black_box(&mut theirs)),
     )
-    .map(|seconds| seconds / times as f64 * 1e9);
-    let ratio = proved / plain;
-    println!("{name:<8}{b:>6}{proved:>12.0}{plain:>12.0}{ratio:>8.2}");
-    ratio
+    .map(|seconds| seconds * 1e9)
 }
 
-/// What a call that only asks costs on lent tables: whether a node is due, 16 times on tables that are made for it.
-fn asking() {
-    let mut tables = Tables::new(1);
-    let [seconds, _] = best_of(
-        || lent(callbench_lent_dues, 1, black_box(&mut tables)),
-        || (),
-    );
-    let one = seconds / (16 * TIMES) as f64 * 1e9;
-    println!("a call that only asks, on lent tables: {one:.0} ns");
+/// ns of one call among as many as there are, without the first and the making of the tables.
+fn one_call(work: &Work, b: usize) -> [f64; 2] {
+    let (first, all) = (timed(work, 1, b), timed(work, work.most, b));
+    [0, 1].map(|i| (all[i] - first[i]) / (work.most - 1) as f64)
+}
+
+/// ns of all calls.
+fn all_calls(work: &Work, b: usize) -> [f64; 2] {
+    timed(work, work.most, b)
+}
+
+/// Lines of the table, which say the times of one call or of all. Both sides leave the same bytes. Returns the ratios.
+fn lines(name: &str, work: Work, times: fn(&Work, usize) -> [f64; 2]) -> [f64; 3] {
+    LENGTHS.map(|b| {
+        let (mut ours, mut theirs) = (Tables::new(b), Tables::new(b));
+        proved(work.number, work.most, b, &mut ours);
+        (work.plain)(work.most, b, &mut theirs);
+        assert_eq!(ours.blocks.get(), theirs.blocks.get());
+        assert_eq!(ours.spare.get(), theirs.spare.get());
+        assert_eq!(ours.differences.get(), theirs.differences.get());
+        let [proved, plain] = times(&work, b);
+        let ratio = proved / plain;
+        println!("{name:<8}{b:>6}{proved:>12.0}{plain:>12.0}{ratio:>8.2}");
+        ratio
+    })
 }
 
 fn main() {
     println!("ns            B      proved  plain Rust   ratio");
-    let swaps = LENGTHS.map(|b| line("swap", b, TIMES, proved_swaps, plain_swaps));
-    let adds = LENGTHS.map(|b| line("add", b, TIMES, proved_adds, plain_adds));
-    let rebuilds = LENGTHS.map(|b| line("rebuild", b, 1, proved_rebuild, plain_rebuild));
-    for b in LENGTHS {
-        line("lent", b, TIMES, lent_swaps, plain_lent_swaps);
-    }
-    asking();
-    println!("(12,18), one client, all in the cache; the proved calls on records by value, but \"lent\", a swap by the entry point on lent tables, which are made anew each time. A rebuild is 18 locks, a pick, 18 writes, 18 settles and 18 unlocks with 6 nodes lost.");
     let aims = [
-        ("swap", swaps, [2.0, 1.25]),
-        ("add", adds, [1.8, 1.10]),
-        ("rebuild", rebuilds, [2.8, 1.6]),
+        ("swap", lines("swap", SWAPS, one_call), [2.0, 1.25]),
+        ("add", lines("add", ADDS, one_call), [1.8, 1.10]),
+        ("rebuild", lines("rebuild", REBUILD, all_calls), [2.8, 1.6]),
     ];
+    let [asking, _] = one_call(&DUES, 1);
+    println!("a call that only asks whether a node is due: {asking:.0} ns");
+    println!("(12,18), 8 clients, lent tables, all in the cache. A swap is one of 8 at one node, one by each client; an add is one of 48, one by each client at each redundant node; the first call and the making of the tables are not in their time. A rebuild is 18 locks, a pick, 18 writes, 18 settles and 18 unlocks with 6 nodes lost, and the making of its tables.");
     for (name, ratios, [small, large]) in aims {
         for (b, ratio, most) in [(1, ratios[0], small), (4096, ratios[2], large)] {
-            let what = format!("{name} at {b}, times plain Rust's");
+            let what = format!("{name} at {b} on lent tables, times plain Rust's");
             met(&what, ratio, &format!("at most {most}"), ratio <= most);
         }
     }

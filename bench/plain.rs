@@ -166,10 +166,6 @@ pub struct Node {
 }
 
 impl Node {
-    pub fn is_full(&self) -> bool {
-        self.entries.is_full()
-    }
-
     pub fn fresh() -> Self {
         Node::empty(Opmode::Norm)
     }
@@ -257,13 +253,13 @@ pub struct Client {
 }
 
 impl Client {
-    /// With its first write in hand, at position 1.
-    pub fn writing() -> Self {
+    /// Client c with its first write in hand, at position 1.
+    pub fn writing(c: u8) -> Self {
         let mut client = Client::fresh();
         let mut done = NodeSet::default();
         done.put(1, true);
         let id = WriteId {
-            client: 1,
+            client: c,
             position: 1,
             number: 0,
         };

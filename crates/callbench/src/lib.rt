@@ -1,18 +1,26 @@
-// The calls many times over, for the benchmark to time. Each function answers the number of its last call's answer: 0 if all were accepted.
-mod loans; // loans.rt: swaps, and others, on lent tables
-mod rebuilds; // rebuilds.rt: a whole rebuild
-mod tables; // tables.rt: calls on lent tables, by a law each
-mod writes; // writes.rt: swaps and adds
+// Calls on lent tables, one after another, for the benchmark to time.
+mod runs; // runs.rt: the calls
+mod starts; // starts.rt: what each kind of work begins with
+mod turns; // turns.rt: which call is next
 
 use records::Sizes;
 
-// The largest stripe, with blocks of b bytes and one client.
-fn sizes(b: usize) -> Sizes {
-    Sizes {
-        k: 12,
-        n: 18,
-        b: b,
-        failures: 6,
-        m: 1,
-    }
+enum Work {
+    Dues,
+    Swaps,
+    Adds,
+    Rebuild,
+}
+
+// Calls, one after another: `left` are left, and where they are `pick`, the next is a pick. The next is client c's, at node j; the clients up to
+// `clients` take turns, and then the next node is called. The number is that of the first refusal, or 0.
+struct Run {
+    pub z: Sizes,
+    pub work: Work,
+    pub left: usize,
+    pub pick: usize,
+    pub c: u8,
+    pub clients: u8,
+    pub j: u8,
+    pub number: u8,
 }

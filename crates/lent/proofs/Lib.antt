@@ -8,4 +8,3 @@ pub mod ReadEntry
 pub mod Seeing
 pub mod Side
 pub mod StepEntry
-pub mod Twice

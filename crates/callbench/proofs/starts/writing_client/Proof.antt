@@ -3,8 +3,8 @@ use mathlib.Core.Path.{ap}
 use native.Mathlib.Omega.{arith}
 use borrow.Author.Needs.{needs}
 use Rattle.records.specs.Client.{Client}
-use Rattle.callbench.proofs.writes.writing_client.Statement.{statement}
-use Rattle.callbench.proofs.writes.writing_client.Tie as tie
+use Rattle.callbench.proofs.starts.writing_client.Statement.{statement}
+use Rattle.callbench.proofs.starts.writing_client.Tie as tie
 
 begin-requires : tie.Need-begin-requires
 begin-requires c κs = omega (arith, ap (λ (x : Client). x .next .0) (c .before .fresh .ensures))

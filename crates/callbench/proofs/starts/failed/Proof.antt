@@ -1,9 +1,9 @@
--- `callbench::rebuilds::failed` is safe and ends. Assumes nothing.
+-- `callbench::starts::failed` is safe and ends. Assumes nothing.
 use Prim.Native.Nat.{_≤_, _-_}
 use native.Mathlib.Omega.{arith}
 use borrow.Author.Needs.{needs}
-use Rattle.callbench.proofs.rebuilds.failed.Statement.{statement}
-use Rattle.callbench.proofs.rebuilds.failed.Tie as tie
+use Rattle.callbench.proofs.starts.failed.Statement.{statement}
+use Rattle.callbench.proofs.starts.failed.Tie as tie
 
 abbrev Inv-loop : tie.InvT-loop
 Inv-loop nodes₀ j₀ nodes j = (1 ≤ j) × (j ≤ 7)

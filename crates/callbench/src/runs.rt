@@ -1,0 +1,53 @@
+// Calls one after another on tables that are the function's own, and are lent for each call. Walked by a law.
+ghost use mathlib.Core.Path.{_≡_};
+use crate::Run;
+use records::ClientRecord;
+use records::NodeRecord;
+use shelf::pick;
+use shelf::step;
+
+pub(crate) fn run(
+    first_nodes: [NodeRecord; 18],
+    first_clients: [ClientRecord; 8],
+    blocks: &mut [u8],
+    spare: &mut [u8],
+    differences: &mut [u8],
+    value: &[u8],
+    start: Run,
+) -> Run
+    ensures { λ r. ⌜ r .left ≡ 0 ⌝ }
+{
+    let mut nodes = first_nodes;
+    let mut clients = first_clients;
+    let mut now = start;
+    while now.goes_on() {
+        if now.picks() {
+            let request = now.pick();
+            let answer = pick(
+                &mut nodes,
+                &mut clients,
+                blocks,
+                spare,
+                differences,
+                value,
+                request,
+            );
+            let next = now.after(answer);
+            now = next;
+        } else {
+            let request = now.step();
+            let answer = step(
+                &mut nodes,
+                &mut clients,
+                blocks,
+                spare,
+                differences,
+                value,
+                request,
+            );
+            let next = now.after(answer);
+            now = next;
+        }
+    }
+    now
+}
