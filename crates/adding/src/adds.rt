@@ -43,7 +43,7 @@ fn is_within(
     ensures { λ r. ⌜ r ≡ (sizesWithin z && ((nodeWithin z (nodeOf node) && clientWithin z (clientOf client))
         && (eqb blocks (z .n * z .b) && eqb differences (z .m * z .b)))) ⌝ }
 {
-    z.within() && ((node.is_within(z) && client.is_within(z)) && are_tables(blocks, differences, z))
+    z.within() && (node.is_within(z) && (client.is_within(z) && are_tables(blocks, differences, z)))
 }
 
 fn is_in_range(z: Sizes, c: u8, j: u8) -> bool

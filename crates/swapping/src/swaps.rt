@@ -41,8 +41,8 @@ fn is_within(
         && ((eqb blocks (z .n * z .b) && eqb differences (z .m * z .b)) && eqb value (z .b)))) ⌝ }
 {
     z.within()
-        && ((node.is_within(z) && client.is_within(z))
-            && (are_tables(blocks, differences, z) && value == z.b))
+        && (node.is_within(z)
+            && (client.is_within(z) && (are_tables(blocks, differences, z) && value == z.b)))
 }
 
 fn is_in_range(z: Sizes, c: u8, i: u8) -> bool

@@ -10,8 +10,10 @@ is-within-spec =
     tie.close
     (tie.spec
     (λ c κs. search needs)
-    (λ c κs. sym (c .before .within .ensures) ∙ c .if1 .taken)
+    (λ c κs. search needs)
     (λ c κs. sym (c .before .before .before .within .ensures) ∙ c .before .before .if1 .taken)
+    (λ c κs. sym (c .before .before .before .before .before .within .ensures) ∙ c .before .before .before .before .if1 .taken)
+    (λ c. search tests)
     (λ c. search tests)
     (λ c. search tests)
     (λ c. search tests)
