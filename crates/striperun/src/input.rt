@@ -1,5 +1,5 @@
 // Standard input by way of a lent buffer: its bytes, and its lines.
-use super::sizes::SizesReader;
+use format::sizes::SizesReader;
 use libc::STDIN_FILENO;
 use records::Sizes;
 use script::reader::Line;

@@ -4,7 +4,6 @@ mod input; // input.rt: the lines of standard input
 mod nodes; // nodes.rt: the node records with their blocks
 mod lines; // lines.rt: the lines of a script, one after the other
 mod show; // show.rt: what is printed of a call
-mod sizes; // sizes.rt: the line of sizes
 
 use input::Input;
 

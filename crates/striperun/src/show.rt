@@ -6,75 +6,18 @@ use super::clients::put_clients;
 use super::nodes::put_nodes;
 use calls::Answer;
 use calls::Call;
-use format::lists::put_id;
-use format::lists::put_set;
-use format::nodes::put_modes;
 use format::output::put;
 use format::output::put_bytes;
-use format::output::put_number;
 use format::output::put_number_and;
 use format::output::put_text;
-use records::CheckAnswer;
-use records::ClientRecord;
-use records::Finding;
-use records::Phase;
-use records::Refusal;
-use records::Returned;
+use format::returned::put_block_read;
+use format::returned::put_finding;
+use format::returned::put_picked;
+use format::returned::put_refusal;
 use records::Sizes;
 use script::reader::Line;
 use step::Played;
 use step::Stripe;
-
-// What was picked: the set, and E.
-fn put_picked(out: &mut [u8], mut at: usize, client: ClientRecord) -> usize {
-    let phase = client.phase;
-    let Phase::Writing(_, set, epoch) = phase else {
-        return put(out, at, b'-');
-    };
-    at = put_text(out, at, b"set=");
-    at = put_set(out, at, set);
-    at = put_text(out, at, b" E=");
-    put_number(out, at, epoch.0 as u64)
-}
-
-fn put_block_read(out: &mut [u8], at: usize, shown: &[u8]) -> usize {
-    let next = put_text(out, at, b"block=");
-    put_bytes(out, next, shown)
-}
-
-// What is returned with a refusal.
-fn put_refusal(out: &mut [u8], at: usize, why: Refusal) -> usize {
-    let returned = why.returned();
-    match returned {
-        Returned::Nothing => put(out, at, b'-'),
-        Returned::Modes(opmode, lmode) => put_modes(out, at, opmode, lmode),
-        Returned::NodeEpoch(epoch) => put_number(out, at, epoch.0 as u64),
-        Returned::PreviousId(id) => put_id(out, at, id),
-        Returned::SetSize(size) => put_number(out, at, size as u64),
-    }
-}
-
-fn put_check(out: &mut [u8], at: usize, told: CheckAnswer) -> usize {
-    match told {
-        CheckAnswer::Init => put_text(out, at, b"INIT"),
-        CheckAnswer::Gc => put_text(out, at, b"GC"),
-        CheckAnswer::NoChange => put_text(out, at, b"NoChange"),
-    }
-}
-
-// What a call that asks is told.
-fn put_finding(out: &mut [u8], at: usize, finding: Finding) -> usize {
-    match finding {
-        Finding::Check(told) => put_check(out, at, told),
-        Finding::Due(is_due) => {
-            if is_due {
-                put_text(out, at, b"due")
-            } else {
-                put_text(out, at, b"no")
-            }
-        }
-    }
-}
 
 // What is returned with the acceptance of a call that has no word of its own.
 fn put_accepted(out: &mut [u8], at: usize, m: usize, line: Line, stripe: Stripe) -> usize
