@@ -1,5 +1,5 @@
 -- Records of a table, counted from 1. Assumes nothing.
---     set-item, map-set              one record put.        element-in, element-past, set-in, set-past      a record of the table, and one past it
+--     set-item, map-put, map-set     one record put.        element-in, element-past, set-in, set-past      a record of the table, and one past it
 use mathlib.Core.Bool.{cond}
 use mathlib.Core.List.{List, [], _∷_, map}
 use mathlib.Core.Path.{_≡_, refl, sym, ap, _∙_}
@@ -44,7 +44,7 @@ module _ {A : Type 0} where
   set-in l (suc j) d h = let e : suc j - 1 ≡ j = omega arith in rw e (set-getD l j d)
 
 module _ {A B : Type 0} (f : A → B) where
-  map-put : (l : List A) (i : ℕ) (x : A) → map f (set l i x) ≡ set (map f l) i (f x)
+  pub map-put : (l : List A) (i : ℕ) (x : A) → map f (set l i x) ≡ set (map f l) i (f x)
   map-put [] i x = refl
   map-put (y ∷ l) zero x = refl
   map-put (y ∷ l) (suc i) x = ap (λ r. f y ∷ r) (map-put l i x)

@@ -2,7 +2,7 @@
 ghost use mathlib.Core.Bool.{_&&_};
 ghost use mathlib.Core.Path.{_≡_};
 ghost use lib.Dec.{eqb, leb};
-ghost use Rattle.shelf.specs.Picks.{allBegun, allEnd, allSeen, AfterPick, PickedAll};
+ghost use Rattle.shelf.specs.Picks.{allBegun, allEnd, AfterPick, PickedAll};
 use crate::AllTaken;
 use crate::Back;
 use crate::Looked;
@@ -68,20 +68,6 @@ impl AllTaken {
             self.len
         } else {
             0
-        }
-    }
-
-    pub(crate) fn see(self, i: usize, node: NodeRecord) -> Self
-        ensures { λ r. ⌜ r ≡ allSeen self i node ⌝ }
-    {
-        if i >= Sizes::NODES {
-            return self;
-        }
-        let mut nodes = self.nodes;
-        nodes.items[i] = node;
-        AllTaken {
-            len: self.len,
-            nodes: nodes,
         }
     }
 

@@ -78,7 +78,7 @@ pub(crate) fn take_all(nodes: &[NodeRecord], looked: Looked) -> AllTaken
     let end = taken.end();
     while i < end {
         let node = nodes[i];
-        taken = taken.see(i, node);
+        taken.nodes.items[i] = node;
         i = i + 1;
     }
     taken
