@@ -3,12 +3,13 @@ ghost use mathlib.Core.Path.{_≡_};
 use crate::Run;
 use records::ClientRecord;
 use records::NodeRecord;
+use records::Sizes;
 use shelf::pick;
 use shelf::step;
 
 pub(crate) fn run(
-    first_nodes: [NodeRecord; 18],
-    first_clients: [ClientRecord; 8],
+    first_nodes: [NodeRecord; Sizes::NODES],
+    first_clients: [ClientRecord; Sizes::CLIENTS],
     blocks: &mut [u8],
     spare: &mut [u8],
     differences: &mut [u8],

@@ -34,7 +34,7 @@ fn writing() -> Clients {
 
 fn fresh() -> Nodes {
     let node = NodeRecord::fresh();
-    let items = [node; 18];
+    let items = [node; Sizes::NODES];
     Nodes { items }
 }
 

@@ -25,10 +25,10 @@ use Rattle.shelf.specs.Shelf.{onTables, stripeIn}
 use Rattle.shelf.specs.Table.{ClientTaken, clientsIn, nodesIn}
 
 abbrev pub allBegun : Looked → ℕ → AllTaken → Type 0
-allBegun l len t = (t .len ≡ len) × (length (t .nodes .items) ≡ 18)
+allBegun l len t = (t .len ≡ len) × (length (t .nodes .items) ≡ nodeLimit)
 
 abbrev pub allEnd : AllTaken → ℕ
-allEnd t = cond (leb (t .len) 18) (t .len) 0
+allEnd t = cond (leb (t .len) nodeLimit) (t .len) 0
 
 abbrev pub allSeen : AllTaken → ℕ → NodeRecord → AllTaken
 allSeen t i node = record { len = t .len; nodes = record { items = set (t .nodes .items) i node } }

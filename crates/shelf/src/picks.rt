@@ -2,6 +2,7 @@
 ghost use mathlib.Core.Bool.{_&&_};
 ghost use mathlib.Core.Path.{_≡_};
 ghost use lib.Dec.{eqb, leb};
+ghost use Rattle.records.specs.Sizes.{nodeLimit};
 ghost use Rattle.shelf.specs.Picks.{allBegun, allEnd, AfterPick, PickedAll};
 use crate::AllTaken;
 use crate::Back;
@@ -72,7 +73,7 @@ impl AllTaken {
     }
 
     fn fits(self, taken: TakenClient, z: Sizes) -> bool
-        ensures { λ r. ⌜ r ≡ (eqb (self .len) (z .n) && (eqb (taken .len) (z .m) && leb (z .n) 18)) ⌝ }
+        ensures { λ r. ⌜ r ≡ (eqb (self .len) (z .n) && (eqb (taken .len) (z .m) && leb (z .n) nodeLimit)) ⌝ }
     {
         if self.len != z.n {
             return false;
