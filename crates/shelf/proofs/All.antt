@@ -35,7 +35,7 @@ use Rattle.stripe.specs.Seen.{keep}
 use Rattle.stripe.specs.View.{blankRecord, recordAt, nodesOf}
 use Rattle.stripe.proofs.NodeLists.{eighteen}
 use Rattle.shelf.specs.declared.AllTaken.{AllTaken}
-use Rattle.shelf.specs.declared.Looked.{Looked}
+use Rattle.shelf.specs.declared.Found.{Found}
 use Rattle.shelf.specs.declared.PickRequest.{PickRequest}
 use Rattle.shelf.specs.declared.Returned.{Returned}
 use Rattle.shelf.specs.declared.TakenClient.{TakenClient}
@@ -46,8 +46,8 @@ use Rattle.shelf.proofs.AllTaken.{the-row}
 use Rattle.shelf.proofs.Cases.{false-true}
 use Rattle.shelf.proofs.Lists.{map-set}
 
-pub all-ends : (l : Looked) (len : ℕ) (t : AllTaken) → allBegun l len t → allEnd t ≤ len
-all-ends l len t b = rw (← b .0) (by (leb (t .len) 18))
+pub all-ends : (f : Found) (len : ℕ) (t : AllTaken) → allBegun f len t → allEnd t ≤ len
+all-ends f len t b = rw (← b .0) (by (leb (t .len) 18))
   where
     by : (u : Bool) → cond u (t .len) 0 ≤ t .len
     by true = omega arith
@@ -77,8 +77,8 @@ module _ (ys : List NodeRecord) (t : AllTaken) (b : length (t .nodes .items) ≡
 pub all-eighteen : (t : AllTaken) (vs : List Val) → Is the-row t vs → length (t .nodes .items) ≡ 18
 all-eighteen t vs g = eighteen (t .nodes) _ (g .1 .1 .1 .0)
 
-pub all-took : (ys : List NodeRecord) (l : Looked) (t : AllTaken) → allBegun l (length ys) t → AllTook ys l (seenIn allSeen blankRecord t ys 0 (allEnd t - 0))
-all-took ys l t b = record { len = at-len ys t (b .1) (allEnd t - 0) ∙ b .0; items = λ few. are few (allEnd t - 0) (ends few) }
+pub all-took : (ys : List NodeRecord) (f : Found) (t : AllTaken) → allBegun f (length ys) t → AllTook ys f (seenIn allSeen blankRecord t ys 0 (allEnd t - 0))
+all-took ys f t b = record { len = at-len ys t (b .1) (allEnd t - 0) ∙ b .0; items = λ few. are few (allEnd t - 0) (ends few) }
   where
     ends : length ys ≤ 18 → allEnd t - 0 ≡ length ys
     ends few = rw (b .0, le-leb (length ys) 18 few) (omega arith)
@@ -96,7 +96,7 @@ fits q t y = eqb (t .len) (q .z .n) && (eqb (y .len) (q .z .m) && leb (q .z .n) 
 
 module _ (q : PickRequest) (t : AllTaken) (y : TakenClient) (s b : List ℕ) where
   -- tables of other lengths, and sizes beyond the array, are answered 1
-  out : (nodes : List NodeRecord) (clients : List ClientRecord) (d : List ℕ) (l : Looked) → AllTook nodes l t → ClientTaken clients (q .c) y → fits q t y ≡ false
+  out : (nodes : List NodeRecord) (clients : List ClientRecord) (d : List ℕ) (f : Found) → AllTook nodes f t → ClientTaken clients (q .c) y → fits q t y ≡ false
       → refused OutOfLimits (stripeIn nodes clients b s d) ≡ onTables (q .z) (Pick (q .c)) (stripeIn nodes clients b s d)
   unfolding step guard Rebuild.pick
   out nodes clients d l took taken misfit =

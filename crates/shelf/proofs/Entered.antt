@@ -26,7 +26,7 @@ use Rattle.shelf.proofs.PickRequest as pick-request
 use Rattle.shelf.proofs.ReadRequest as read-request
 use Rattle.shelf.proofs.Request as request
 use Rattle.shelf.proofs.Returned as returned
-use Rattle.shelf.proofs.Types.{all-rec, found-rec, pick-request-rec, read-request-rec, request-rec, answer-rec, returned-parts, seen-nodes, nodes, node-back, others-back, clients, clients-back}
+use Rattle.shelf.proofs.Types.{all-rec, found-rec, pick-request-rec, read-request-rec, request-rec, answer-rec, returned-parts, seen-nodes, nodes, node-back, others-back, pick-back, pick-others, clients, clients-back}
 
 abbrev pub CalledBy : Request → ℕ → Type 0
 CalledBy q c = c ≡ caller (q .call)
@@ -59,10 +59,10 @@ entered-read ns out b out′ q vp vx vr p x r = r .1 .1 ns (p .0) (p .1 .1) (x .
 abbrev pub PickedBy : PickRequest → ℕ → Type 0
 PickedBy q c = c ≡ q .c
 
-abbrev pub NoneAsked : TakenClient → PickRequest → Sought → Type 0
-NoneAsked t q s = s .j ≡ 0
+abbrev pub NoneAsked : TakenClient → PickRequest → Looked → Type 0
+NoneAsked t q l = l .sought .j ≡ 0
 
-pub entered-pick : Implied seen-nodes clients all.the-row all-rec AllTook node-back others-back clients-back pick-request.the-row answer.the-row returned.the-row
+pub entered-pick : Implied nodes clients all.the-row all-rec AllTook pick-back pick-others clients-back pick-request.the-row answer.the-row returned.the-row
     pick-request-rec answer-rec returned-parts PickedBy NoneAsked PickedAll PicksOnly
 entered-pick ns ms ns′ cs cs′ b s d v b′ s′ d′ q vc vt vp vw vx vr c t p w x r lens back others put = (r .1 .1 .0, (r .1 .1 .1 .0, picks))
   where

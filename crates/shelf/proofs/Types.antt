@@ -101,13 +101,20 @@ abbrev pub nodes : Side
 nodes = record { S = node.the-row; P = looked.the-row; X = found.the-row; s = node-rec; p = looked-rec; x = found-rec; Took = NodeFound }
 
 abbrev pub all-nodes : Side
-all-nodes = record { S = node.the-row; P = looked.the-row; X = all.the-row; s = node-rec; p = looked-rec; x = all-rec; Took = AllTook }
+all-nodes = record { S = node.the-row; P = found.the-row; X = all.the-row; s = node-rec; p = found-rec; x = all-rec; Took = AllTook }
 
 abbrev pub node-back : Back seen-nodes
 node-back = record { Y = back.the-row; y = back-rec; Puts = PutBack }
 
 abbrev pub others-back : Back seen-nodes
 others-back = record { Y = others.the-row; y = others-rec; Puts = PutOthers }
+
+-- a pick begins with the second
+abbrev pub pick-back : Back nodes
+pick-back = record { Y = back.the-row; y = back-rec; Puts = PutBack }
+
+abbrev pub pick-others : Back nodes
+pick-others = record { Y = others.the-row; y = others-rec; Puts = PutOthers }
 
 -- the table of the clients
 abbrev pub clients : Side

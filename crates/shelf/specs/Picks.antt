@@ -17,15 +17,15 @@ use Rattle.step.specs.Steps.{stripeWith}
 use Rattle.stripe.specs.Seen.{applied, keep}
 use Rattle.stripe.specs.View.{nodesOf}
 use Rattle.shelf.specs.declared.AllTaken.{AllTaken}
-use Rattle.shelf.specs.declared.Looked.{Looked}
+use Rattle.shelf.specs.declared.Found.{Found}
 use Rattle.shelf.specs.declared.PickRequest.{PickRequest}
 use Rattle.shelf.specs.declared.Returned.{Returned}
 use Rattle.shelf.specs.declared.TakenClient.{TakenClient}
 use Rattle.shelf.specs.Shelf.{onTables, stripeIn}
 use Rattle.shelf.specs.Table.{ClientTaken, clientsIn, nodesIn}
 
-abbrev pub allBegun : Looked → ℕ → AllTaken → Type 0
-allBegun l len t = (t .len ≡ len) × (length (t .nodes .items) ≡ nodeLimit)
+abbrev pub allBegun : Found → ℕ → AllTaken → Type 0
+allBegun f len t = (t .len ≡ len) × (length (t .nodes .items) ≡ nodeLimit)
 
 abbrev pub allEnd : AllTaken → ℕ
 allEnd t = cond (leb (t .len) nodeLimit) (t .len) 0
@@ -33,7 +33,7 @@ allEnd t = cond (leb (t .len) nodeLimit) (t .len) 0
 abbrev pub allSeen : AllTaken → ℕ → NodeRecord → AllTaken
 allSeen t i node = record { len = t .len; nodes = record { items = set (t .nodes .items) i node } }
 
-pub record AllTook (nodes : List NodeRecord) (l : Looked) (t : AllTaken) : Type 0 where
+pub record AllTook (nodes : List NodeRecord) (f : Found) (t : AllTaken) : Type 0 where
   pub len : t .len ≡ length nodes
   pub items : length nodes ≤ nodeLimit → nodesOf (length nodes) (t .nodes) ≡ nodesIn nodes
 
@@ -47,8 +47,8 @@ pub record AfterPick (s : Returned) (t : AllTaken) (y : TakenClient) (r : Picked
 pub record PicksAll (t : AllTaken) (y : TakenClient) (spare blocks : List ℕ) (q : PickRequest) (r : Returned) (spare′ : List ℕ) : Type 0 where
   pub j-is : r .back .j ≡ 0
   pub len : r .others .len ≡ t .len
-  pub meets : (nodes : List NodeRecord) (clients : List ClientRecord) (differences : List ℕ) (l : Looked)
-      → AllTook nodes l t → ClientTaken clients (q .c) y
+  pub meets : (nodes : List NodeRecord) (clients : List ClientRecord) (differences : List ℕ) (f : Found)
+      → AllTook nodes f t → ClientTaken clients (q .c) y
       → Meets (onTables (q .z) (Pick (q .c)) (stripeIn nodes clients blocks spare differences)) (r .answer) []
       (stripeWith (applied (r .others .change) (nodesIn nodes)) (setAt (clientsIn clients) (r .client .c) (clientOf (r .client .client)))
       blocks spare′ differences)

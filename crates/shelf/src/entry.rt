@@ -63,9 +63,9 @@ pub fn pick(
 {
     let c = request.client();
     let client = take_client(clients, c);
-    let sought = client.sought_for_pick(request);
-    let looked = look(nodes, sought);
-    let taken = take_all(nodes, looked);
+    let looked = client.sought_for_pick(request);
+    let found = take_node(nodes, looked);
+    let taken = take_all(nodes, found);
     let r = taken.pick(client, blocks, spare, differences, value, request);
     put_back(nodes, r.back);
     put_others(nodes, r.others);

@@ -6,6 +6,7 @@ ghost use Rattle.records.specs.Sizes.{nodeLimit};
 ghost use Rattle.shelf.specs.Picks.{allBegun, allEnd, AfterPick, PickedAll};
 use crate::AllTaken;
 use crate::Back;
+use crate::Found;
 use crate::Looked;
 use crate::Others;
 use crate::PickRequest;
@@ -30,22 +31,23 @@ impl PickRequest {
 
 impl TakenClient {
     // A pick looks for no node: it takes all.
-    pub(crate) fn sought_for_pick(self, request: PickRequest) -> Sought
-        ensures { λ r. ⌜ r .j ≡ 0 ⌝ }
+    pub(crate) fn sought_for_pick(self, request: PickRequest) -> Looked
+        ensures { λ r. ⌜ r .sought .j ≡ 0 ⌝ }
     {
         let z = request.z;
-        Sought {
+        let sought = Sought {
             z: z,
             c: request.c,
             j: 0,
             all: false,
-        }
+        };
+        sought.begin(0)
     }
 }
 
 impl AllTaken {
-    pub(crate) fn begin(looked: Looked, len: usize) -> Self
-        ensures { λ r. ⌜ allBegun looked len r ⌝ }
+    pub(crate) fn begin(found: Found, len: usize) -> Self
+        ensures { λ r. ⌜ allBegun found len r ⌝ }
     {
         let failed = NodeRecord::failed();
         let items = [failed; Sizes::NODES];

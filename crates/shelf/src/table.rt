@@ -69,11 +69,11 @@ pub(crate) fn take_node(nodes: &[NodeRecord], looked: Looked) -> Found
     found
 }
 
-pub(crate) fn take_all(nodes: &[NodeRecord], looked: Looked) -> AllTaken
-    ensures { λ r. ⌜ AllTook (now (nodes .entry)) looked r ⌝ }
+pub(crate) fn take_all(nodes: &[NodeRecord], found: Found) -> AllTaken
+    ensures { λ r. ⌜ AllTook (now (nodes .entry)) found r ⌝ }
 {
     let len = nodes.len();
-    let mut taken = AllTaken::begin(looked, len);
+    let mut taken = AllTaken::begin(found, len);
     let mut i = taken.first();
     let end = taken.end();
     while i < end {

@@ -11,15 +11,15 @@ use Rattle.shelf.proofs.Entered.{NoneAsked, PickedBy, entered-pick}
 use Rattle.shelf.proofs.AllTaken as all
 use Rattle.shelf.proofs.PickRequest as request
 use Rattle.shelf.proofs.Returned as returned
-use Rattle.shelf.proofs.Types.{all-rec, pick-request-rec, answer-rec, returned-parts, seen-nodes, all-nodes, node-back, others-back, clients, clients-back}
+use Rattle.shelf.proofs.Types.{all-rec, pick-request-rec, answer-rec, returned-parts, nodes, all-nodes, pick-back, pick-others, clients, clients-back}
 use Rattle.shelf.proofs.PickRequest.client.Met as client-thm
 use Rattle.shelf.proofs.PickRequest.client.Symbol as client-def
 use Rattle.shelf.proofs.table.take_client.Met as take-thm
 use Rattle.shelf.proofs.table.take_client.Symbol as take-def
 use Rattle.shelf.proofs.TakenClient.sought_for_pick.Met as sought-thm
 use Rattle.shelf.proofs.TakenClient.sought_for_pick.Symbol as sought-def
-use Rattle.shelf.proofs.table.look.Met as look-thm
-use Rattle.shelf.proofs.table.look.Symbol as look-def
+use Rattle.shelf.proofs.table.take_node.Met as look-thm
+use Rattle.shelf.proofs.table.take_node.Symbol as look-def
 use Rattle.shelf.proofs.table.take_all.Met as node-thm
 use Rattle.shelf.proofs.table.take_all.Symbol as node-def
 use Rattle.shelf.proofs.AllTaken.pick.Met as step-thm
@@ -40,19 +40,19 @@ unfolding code.routine tablesOf
 pick-spec 𝓤 H 𝓜 𝓖 𝓡 =
     entered 𝓤 H (tripleOf 𝓤 H (𝓖 .A) this.signature (this.spec 𝓤 H (𝓖 .A) (𝓜 .mem) (𝓡 .run)))
     (tables 𝓤 H 𝓜 𝓡 code.env .C) (tables 𝓤 H 𝓜 𝓡 code.env .Λ) key.name code.function (code.unfolded 𝓤 H 𝓜 𝓡)
-    (meets seen-nodes clients all.the-row all-rec AllTook node-back others-back clients-back request.the-row answer.the-row returned.the-row
+    (meets nodes clients all.the-row all-rec AllTook pick-back pick-others clients-back request.the-row answer.the-row returned.the-row
     pick-request-rec answer-rec returned-parts
     PickedBy NoneAsked PickedAll PicksOnly entered-pick client-def.name take-def.name sought-def.name look-def.name node-def.name
     step-def.name back-def.name others-def.name put-def.name
     𝓤 H (𝓖 .A) (givenOf 𝓤 H 𝓜 𝓖) (tablesOf 𝓤 H 𝓜 (tables 𝓤 H 𝓜 𝓡 code.env))
     (cited 𝓤 H (Ask request.the-row (clients .P) PickedBy 𝓤 H (𝓖 .A)) 𝓜 𝓡 code.env client-def.name client-def.routine code.calls-shelf·PickRequest·client (client-thm.met 𝓤 H 𝓜 𝓖 𝓡))
     (cited 𝓤 H (Take clients 𝓤 H (𝓖 .A)) 𝓜 𝓡 code.env take-def.name take-def.routine code.calls-shelf·table·take-client (take-thm.met 𝓤 H 𝓜 𝓖 𝓡))
-    (cited 𝓤 H (Ask2 (clients .X) request.the-row (seen-nodes .P) NoneAsked 𝓤 H (𝓖 .A)) 𝓜 𝓡 code.env sought-def.name sought-def.routine code.calls-shelf·TakenClient·sought-for-pick (sought-thm.met 𝓤 H 𝓜 𝓖 𝓡))
-    (cited 𝓤 H (Take seen-nodes 𝓤 H (𝓖 .A)) 𝓜 𝓡 code.env look-def.name look-def.routine code.calls-shelf·table·look (look-thm.met 𝓤 H 𝓜 𝓖 𝓡))
+    (cited 𝓤 H (Ask2 (clients .X) request.the-row (nodes .P) NoneAsked 𝓤 H (𝓖 .A)) 𝓜 𝓡 code.env sought-def.name sought-def.routine code.calls-shelf·TakenClient·sought-for-pick (sought-thm.met 𝓤 H 𝓜 𝓖 𝓡))
+    (cited 𝓤 H (Take nodes 𝓤 H (𝓖 .A)) 𝓜 𝓡 code.env look-def.name look-def.routine code.calls-shelf·table·take-node (look-thm.met 𝓤 H 𝓜 𝓖 𝓡))
     (cited 𝓤 H (Take all-nodes 𝓤 H (𝓖 .A)) 𝓜 𝓡 code.env node-def.name node-def.routine code.calls-shelf·table·take-all (node-thm.met 𝓤 H 𝓜 𝓖 𝓡))
-    (cited 𝓤 H (Step seen-nodes clients all.the-row all-rec AllTook node-back others-back clients-back request.the-row answer.the-row returned.the-row
+    (cited 𝓤 H (Step nodes clients all.the-row all-rec AllTook pick-back pick-others clients-back request.the-row answer.the-row returned.the-row
     pick-request-rec answer-rec returned-parts
     PickedBy NoneAsked PickedAll 𝓤 H (𝓖 .A)) 𝓜 𝓡 code.env step-def.name step-def.routine code.calls-shelf·AllTaken·pick (step-thm.met 𝓤 H 𝓜 𝓖 𝓡))
-    (cited 𝓤 H (Put seen-nodes node-back 𝓤 H (𝓖 .A)) 𝓜 𝓡 code.env back-def.name back-def.routine code.calls-shelf·table·put-back (back-thm.met 𝓤 H 𝓜 𝓖 𝓡))
-    (cited 𝓤 H (Put seen-nodes others-back 𝓤 H (𝓖 .A)) 𝓜 𝓡 code.env others-def.name others-def.routine code.calls-shelf·table·put-others (others-thm.met 𝓤 H 𝓜 𝓖 𝓡))
+    (cited 𝓤 H (Put nodes pick-back 𝓤 H (𝓖 .A)) 𝓜 𝓡 code.env back-def.name back-def.routine code.calls-shelf·table·put-back (back-thm.met 𝓤 H 𝓜 𝓖 𝓡))
+    (cited 𝓤 H (Put nodes pick-others 𝓤 H (𝓖 .A)) 𝓜 𝓡 code.env others-def.name others-def.routine code.calls-shelf·table·put-others (others-thm.met 𝓤 H 𝓜 𝓖 𝓡))
     (cited 𝓤 H (Put clients clients-back 𝓤 H (𝓖 .A)) 𝓜 𝓡 code.env put-def.name put-def.routine code.calls-shelf·table·put-client (put-thm.met 𝓤 H 𝓜 𝓖 𝓡)))

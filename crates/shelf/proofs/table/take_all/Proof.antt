@@ -12,8 +12,8 @@ use Rattle.shelf.specs.Picks.{AllTook, allBegun, allEnd, allSeen}
 use Rattle.shelf.proofs.All.{all-ends, all-took}
 use Rattle.shelf.proofs.AllTaken as all
 use Rattle.shelf.proofs.Gathered.{in-nodes, all-inside}
-use Rattle.shelf.proofs.Looked as looked
-use Rattle.shelf.proofs.Types.{node-rec, all-rec, looked-rec}
+use Rattle.shelf.proofs.Found as found
+use Rattle.shelf.proofs.Types.{node-rec, all-rec, found-rec}
 use Rattle.shelf.proofs.AllTaken.begin.Met as begin-thm
 use Rattle.shelf.proofs.AllTaken.begin.Symbol as begin-def
 use Rattle.shelf.proofs.AllTaken.first.Met as first-thm
@@ -30,9 +30,9 @@ unfolding code.routine tablesOf
 take-all-spec 𝓤 H 𝓜 𝓖 𝓡 =
     entered 𝓤 H (tripleOf 𝓤 H (𝓖 .A) this.signature (this.spec 𝓤 H (𝓖 .A) (𝓜 .mem) (𝓡 .run)))
     (tables 𝓤 H 𝓜 𝓡 code.env .C) (tables 𝓤 H 𝓜 𝓡 code.env .Λ) key.name code.function (code.unfolded 𝓤 H 𝓜 𝓡)
-    (meets node.the-row looked.the-row all.the-row node-rec looked-rec all-rec begin-def.name first-def.name end-def.name allSeen in-nodes
+    (meets node.the-row found.the-row all.the-row node-rec found-rec all-rec begin-def.name first-def.name end-def.name allSeen in-nodes
     allBegun (λ _. 0) allEnd AllTook blankRecord tt (λ l n t b. (all-ends l n t b, all-inside t)) all-took
     𝓤 H (𝓖 .A) (givenOf 𝓤 H 𝓜 𝓖) (tablesOf 𝓤 H 𝓜 (tables 𝓤 H 𝓜 𝓡 code.env))
-    (cited 𝓤 H (Ask2 looked.the-row usize all.the-row allBegun 𝓤 H (𝓖 .A)) 𝓜 𝓡 code.env begin-def.name begin-def.routine code.calls-shelf·AllTaken·begin (begin-thm.met 𝓤 H 𝓜 𝓖 𝓡))
+    (cited 𝓤 H (Ask2 found.the-row usize all.the-row allBegun 𝓤 H (𝓖 .A)) 𝓜 𝓡 code.env begin-def.name begin-def.routine code.calls-shelf·AllTaken·begin (begin-thm.met 𝓤 H 𝓜 𝓖 𝓡))
     (cited 𝓤 H (Ask all.the-row usize (λ t r. r ≡ 0) 𝓤 H (𝓖 .A)) 𝓜 𝓡 code.env first-def.name first-def.routine code.calls-shelf·AllTaken·first (first-thm.met 𝓤 H 𝓜 𝓖 𝓡))
     (cited 𝓤 H (Ask all.the-row usize (λ t r. r ≡ allEnd t) 𝓤 H (𝓖 .A)) 𝓜 𝓡 code.env end-def.name end-def.routine code.calls-shelf·AllTaken·end (end-thm.met 𝓤 H 𝓜 𝓖 𝓡)))
