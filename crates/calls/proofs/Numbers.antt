@@ -1,31 +1,14 @@
 -- The answer with the number 1, and what it leaves. Assumes nothing.
-use mathlib.Core.Path.{_≡_, refl, ap, subst}
+use mathlib.Core.Path.{_≡_, ap, subst}
 use mathlib.Core.List.{List}
 use Prim.Native.Nat.{ℕ}
 use native.Mathlib.Omega.{arith}
-use Rattle.records.specs.declared.Refusal.{Refusal}
-use Rattle.records.specs.declared.Refusal.the-variants.{OutOfLimits, OutOfRange, OutOfPhase, WrongMode, OldEpoch, BeforePrevious, Full}
-use Rattle.records.specs.declared.Refusal.the-variants.{Exhausted, Locked, NotHeld, TooFew, NoInverse}
-use Rattle.records.specs.Refusals.{numberOf}
+use Rattle.records.specs.declared.Refusal.the-variants.{OutOfLimits}
+use Rattle.records.proofs.Refusals.{why-one}
 use Rattle.machine.specs.Stripe.{number}
 use Rattle.calls.specs.declared.Answer.{Answer}
 use Rattle.calls.specs.declared.Answer.the-variants.{Accepted, Shown, Added, Done, Rebuilt, Told, Refused}
 use Rattle.calls.specs.Answers.{answerOf, Left}
-
--- 1 is one refusal's number
-why-one : (why : Refusal) → numberOf why ≡ 1 → why ≡ OutOfLimits
-why-one OutOfLimits e = refl
-why-one OutOfRange e = absurd (omega arith)
-why-one OutOfPhase e = absurd (omega arith)
-why-one (WrongMode opmode lmode) e = absurd (omega arith)
-why-one (OldEpoch epoch) e = absurd (omega arith)
-why-one (BeforePrevious id) e = absurd (omega arith)
-why-one Full e = absurd (omega arith)
-why-one Exhausted e = absurd (omega arith)
-why-one Locked e = absurd (omega arith)
-why-one NotHeld e = absurd (omega arith)
-why-one (TooFew size) e = absurd (omega arith)
-why-one NoInverse e = absurd (omega arith)
 
 -- one answer has it
 pub answer-one : (a : Answer) (shown : List ℕ) → number (answerOf a shown) ≡ 1 → a ≡ Refused OutOfLimits

@@ -6,9 +6,9 @@ use Rattle.code.specs.Code.{redundant}
 use Rattle.code.specs.Decode.{members, recoveredTable}
 use Rattle.code.specs.Calls.{givenSet}
 use Rattle.records.specs.declared.Sizes.{Sizes}
-use Rattle.records.specs.declared.Refusal.{Refusal}
-use Rattle.records.specs.declared.Refusal.the-variants.{OutOfLimits, OutOfRange, OutOfPhase, WrongMode, OldEpoch, BeforePrevious, Full, Exhausted}
-use Rattle.records.specs.declared.Refusal.the-variants.{Locked, NotHeld, TooFew, NoInverse}
+use Rattle.records.specs.declared.Returned.{Returned}
+use Rattle.records.specs.declared.Returned.the-variants.{Nothing, Modes, NodeEpoch, PreviousId, SetSize}
+use Rattle.records.specs.Refusals.{returnedWith}
 use Rattle.machine.specs.Stripe.{Stripe, Answer, Accepted, Shown, Added, Done, Rebuilt, Told, Refused, number, fresh}
 use Rattle.machine.specs.Stripe.{nodeAt}
 use Rattle.machine.specs.Calls.{Call, swap, add, stop, fail, lock, pick, write, settle, step}
@@ -33,19 +33,12 @@ abbrev pub locks : List Call
 locks = times 4 (lock 2)
 
 -- the answer's number and the size returned
-abbrev pub sizeOf : Refusal → List ℕ
-sizeOf OutOfLimits = []
-sizeOf OutOfRange = []
-sizeOf OutOfPhase = []
-sizeOf (WrongMode opmode lmode) = []
-sizeOf (OldEpoch epoch) = []
-sizeOf (BeforePrevious id) = []
-sizeOf Full = []
-sizeOf Exhausted = []
-sizeOf Locked = []
-sizeOf NotHeld = []
-sizeOf (TooFew size) = size ∷ []
-sizeOf NoInverse = []
+abbrev pub sizeOf : Returned → List ℕ
+sizeOf Nothing = []
+sizeOf (Modes opmode lmode) = []
+sizeOf (NodeEpoch epoch) = []
+sizeOf (PreviousId id) = []
+sizeOf (SetSize size) = size ∷ []
 
 abbrev pub returned : Answer → List ℕ
 returned Accepted = []
@@ -54,7 +47,7 @@ returned Added = []
 returned Done = []
 returned Rebuilt = []
 returned (Told finding) = []
-returned (Refused why) = sizeOf why
+returned (Refused why) = sizeOf (returnedWith why)
 
 abbrev pub pickAfter : ℕ → List Call → List ℕ
 pickAfter failures calls =

@@ -1,4 +1,5 @@
--- The numbers of the refusals are from 1 up. Assumes nothing.
+-- The numbers of the refusals are from 1 up, and 1 is that of one alone. Assumes nothing.
+use mathlib.Core.Path.{_≡_, refl}
 use Prim.Native.Nat.{_≤_}
 use native.Mathlib.Omega.{arith}
 use Rattle.records.specs.declared.Refusal.{Refusal}
@@ -18,3 +19,17 @@ from-one Locked = omega arith
 from-one NotHeld = omega arith
 from-one (TooFew size) = omega arith
 from-one NoInverse = omega arith
+
+pub why-one : (why : Refusal) → numberOf why ≡ 1 → why ≡ OutOfLimits
+why-one OutOfLimits e = refl
+why-one OutOfRange e = absurd (omega arith)
+why-one OutOfPhase e = absurd (omega arith)
+why-one (WrongMode opmode lmode) e = absurd (omega arith)
+why-one (OldEpoch epoch) e = absurd (omega arith)
+why-one (BeforePrevious id) e = absurd (omega arith)
+why-one Full e = absurd (omega arith)
+why-one Exhausted e = absurd (omega arith)
+why-one Locked e = absurd (omega arith)
+why-one NotHeld e = absurd (omega arith)
+why-one (TooFew size) e = absurd (omega arith)
+why-one NoInverse e = absurd (omega arith)
