@@ -1,4 +1,5 @@
-/* Encodes four blocks, loses three of the seven, decodes and compares. What the library computes is checked by a product bit by bit. */
+/* Encodes four blocks, loses three of the seven, decodes and compares; then places blocks and nodes. What the library computes is
+   checked by a product bit by bit, and by counting. */
 #include "mezgaudre.h"
 
 #include <stdio.h>
@@ -72,6 +73,38 @@ static int update_agrees(unsigned j, unsigned i)
     return answer == MEZGAUDRE_ACCEPTED && redundant_agrees(j);
 }
 
+/* The homes of 1,000 blocks: position by position, stripe by stripe. */
+static int homes_agree(void)
+{
+    size_t stripe = 0;
+    uint8_t position = 1;
+    for (size_t b = 0; b < 1000; b++) {
+        if (mezgaudre_block_stripe(K, b) != stripe || mezgaudre_block_position(K, b) != position)
+            return 0;
+        position++;
+        if (position > K) {
+            position = 1;
+            stripe++;
+        }
+    }
+    return 1;
+}
+
+/* The cards of the nodes of 1,000 stripes: node 1 a card further at each, the next node on the next card, and back by node_on. */
+static int cards_agree(void)
+{
+    uint8_t card = 1;
+    for (size_t s = 0; s < 1000; s++) {
+        for (uint8_t j = 1; j <= N; j++) {
+            if (mezgaudre_card(N, s, j) != card || mezgaudre_node_on(N, s, card) != j)
+                return 0;
+            card = card == N ? 1 : (uint8_t)(card + 1);
+        }
+        card = card == N ? 1 : (uint8_t)(card + 1);
+    }
+    return 1;
+}
+
 int main(void)
 {
     for (unsigned i = 0; i < K; i++)
@@ -101,5 +134,10 @@ int main(void)
     expect(answer == MEZGAUDRE_OUT_OF_RANGE, "there is no node 8");
     answer = mezgaudre_encode(K, N, B, table[0], K * B - 1, damaged[K], (N - K) * B);
     expect(answer == MEZGAUDRE_OUT_OF_LIMITS, "a byte is missing");
+
+    expect(homes_agree(), "the homes of 1,000 blocks");
+    expect(cards_agree(), "the cards of 1,000 stripes");
+    expect(mezgaudre_block_stripe(13, 30) == 0 && mezgaudre_block_position(13, 30) == 0, "no stripe has 13 data blocks");
+    expect(mezgaudre_card(N, 0, N + 1) == 0 && mezgaudre_node_on(N, 0, 0) == 0, "there is no node 8 and no card 0");
     return 0;
 }

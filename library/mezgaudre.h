@@ -1,4 +1,4 @@
-/* Mezgaudre's erasure code over GF(256), proved: link with libexports.a, which `rt staticlib exports` makes.
+/* Mezgaudre's erasure code over GF(256) and a volume's layout, proved: link with libexports.a, which `rt staticlib exports` makes.
 
    A pointer, not null, and the number of bytes behind it stand for a buffer. The caller lends buffers that hold that many bytes,
    and one that a call writes overlaps no other. No call asks more than that: wrong sizes and lengths have their answers. */
@@ -41,6 +41,16 @@ uint8_t mezgaudre_product(uint8_t a, uint8_t b);
 /* Adds c times src to dst, and returns MEZGAUDRE_ACCEPTED; or where the lengths differ does nothing, and returns
    MEZGAUDRE_OUT_OF_LIMITS. */
 uint32_t mezgaudre_add_times(uint8_t *dst, size_t dst_length, const uint8_t *src, size_t src_length, uint8_t c);
+
+/* Where block b of a volume is, k blocks to a stripe: its stripe is b / k and its position b % k + 1. Blocks and stripes are
+   counted from 0, positions from 1; both are 0 where k is not 1 to 12. */
+size_t mezgaudre_block_stripe(size_t k, size_t b);
+uint8_t mezgaudre_block_position(size_t k, size_t b);
+
+/* The card, of n, that node j of stripe s is on: (j - 1 + s) % n + 1; and the node of stripe s that is on the card. Nodes and
+   cards are counted from 1; 0 where n is more than 18, or the node or the card is not 1 to n. */
+uint8_t mezgaudre_card(size_t n, size_t s, uint8_t j);
+uint8_t mezgaudre_node_on(size_t n, size_t s, uint8_t card);
 
 #ifdef __cplusplus
 }

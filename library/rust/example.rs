@@ -1,5 +1,6 @@
-//! Encodes four blocks, loses three of the seven, decodes and compares. What the library computes is checked by a product bit by bit.
-use mezgaudre::{add_times, decode, encode, product, Answer};
+//! Encodes four blocks, loses three of the seven, decodes and compares; then places blocks and nodes. What the library computes is
+//! checked by a product bit by bit, and by counting.
+use mezgaudre::{add_times, block_home, card, decode, encode, node_on, product, Answer, Home};
 
 const K: usize = 4;
 const N: usize = 7;
@@ -56,6 +57,26 @@ fn update_agrees(table: &mut [u8], j: usize, i: usize) -> bool {
     answer == Answer::Accepted && redundant_agrees(table, j)
 }
 
+/// The homes of 1,000 blocks: position by position, stripe by stripe.
+fn homes_agree() -> bool {
+    let positions =
+        (0..).flat_map(|stripe| (1..=K as u8).map(move |position| Home { stripe, position }));
+    positions
+        .take(1000)
+        .enumerate()
+        .all(|(b, home)| block_home(K, b) == Some(home))
+}
+
+/// The cards of the nodes of 1,000 stripes: node 1 a card further at each, the next node on the next card, and back by `node_on`.
+fn cards_agree() -> bool {
+    (0..1000).all(|s| {
+        let cards = (1..=N as u8).cycle().skip(s % N);
+        (1..=N as u8)
+            .zip(cards)
+            .all(|(j, at)| card(N, s, j) == Some(at) && node_on(N, s, at) == Some(j))
+    })
+}
+
 fn main() {
     let mut table: Vec<u8> = (0..N * B)
         .map(|q| (q % B * (q % B) / 7 + 31 * (q % B) + 97 * (q / B)) as u8)
@@ -102,5 +123,13 @@ fn main() {
     expect(
         encode(K, N, B, &data[1..], redundant) == Answer::OutOfLimits,
         "a byte is missing",
+    );
+
+    expect(homes_agree(), "the homes of 1,000 blocks");
+    expect(cards_agree(), "the cards of 1,000 stripes");
+    expect(block_home(13, 30).is_none(), "no stripe has 13 data blocks");
+    expect(
+        card(N, 0, N as u8 + 1).is_none() && node_on(N, 0, 0).is_none(),
+        "there is no node 8 and no card 0",
     );
 }

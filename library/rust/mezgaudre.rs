@@ -1,5 +1,5 @@
-//! Mezgaudre's erasure code over GF(256), proved, for safe Rust. The library tests every size and length itself, and answers
-//! what is wrong with them, so these functions take any arguments.
+//! Mezgaudre's erasure code over GF(256) and a volume's layout, proved, for safe Rust. The library tests every size and length
+//! itself, and answers what is wrong with them, so these functions take any arguments.
 
 /// What encoding and decoding answer. Only `Accepted` has written to the buffer lent for the result.
 #[derive(Clone, Copy, Debug, PartialEq, Eq)]
@@ -14,6 +14,13 @@ pub enum Answer {
     TooFew(u8),
     /// Proved never to be given.
     NoInverse,
+}
+
+/// A position of a stripe: stripes are counted from 0, positions from 1.
+#[derive(Clone, Copy, Debug, PartialEq, Eq)]
+pub struct Home {
+    pub stripe: usize,
+    pub position: u8,
 }
 
 #[link(name = "exports", kind = "static")]
@@ -46,6 +53,10 @@ extern "C" {
         src_length: usize,
         c: u8,
     ) -> u32;
+    fn mezgaudre_block_stripe(k: usize, b: usize) -> usize;
+    fn mezgaudre_block_position(k: usize, b: usize) -> u8;
+    fn mezgaudre_card(n: usize, s: usize, j: u8) -> u8;
+    fn mezgaudre_node_on(n: usize, s: usize, card: u8) -> u8;
 }
 
 impl Answer {
@@ -107,4 +118,26 @@ pub fn add_times(dst: &mut [u8], src: &[u8], c: u8) -> Answer {
     Answer::of(unsafe {
         mezgaudre_add_times(dst.as_mut_ptr(), dst.len(), src.as_ptr(), src.len(), c)
     })
+}
+
+/// `None` for 0, which stands for no position, no card and no node.
+fn counted(number: u8) -> Option<u8> {
+    (number != 0).then_some(number)
+}
+
+/// Where block b of a volume is, k blocks to a stripe: stripe b / k, position b % k + 1. `None` where k is not 1 to 12.
+pub fn block_home(k: usize, b: usize) -> Option<Home> {
+    let stripe = unsafe { mezgaudre_block_stripe(k, b) };
+    let position = counted(unsafe { mezgaudre_block_position(k, b) })?;
+    Some(Home { stripe, position })
+}
+
+/// The card, of n, that node j of stripe s is on: (j - 1 + s) % n + 1. `None` where n is more than 18, or j is not 1 to n.
+pub fn card(n: usize, s: usize, j: u8) -> Option<u8> {
+    counted(unsafe { mezgaudre_card(n, s, j) })
+}
+
+/// The node of stripe s that is on the card, of n. `None` where n is more than 18, or the card is not 1 to n.
+pub fn node_on(n: usize, s: usize, card: u8) -> Option<u8> {
+    counted(unsafe { mezgaudre_node_on(n, s, card) })
 }

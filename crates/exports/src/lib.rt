@@ -2,6 +2,7 @@
 ghost use mathlib.Core.Path.{_≡_};
 ghost use Rattle.gf256.specs.Field.{product};
 ghost use Rattle.code.specs.Calls.{encoding, decoding};
+ghost use Rattle.layout.specs.Layout.{homeOf, cardFor, nodeFor};
 ghost use Rattle.exports.specs.Exports.{sizeIn, answerOf, answered, added};
 use code::CodeAnswer;
 
@@ -70,4 +71,35 @@ pub extern "C" fn mezgaudre_add_times(dst: &mut [u8], src: &[u8], c: u8) -> u32
     }
     blocks::add_times(dst, src, c);
     0
+}
+
+// The stripe and the position of block b: layout's block_home, as numbers.
+#[no_mangle]
+pub extern "C" fn mezgaudre_block_stripe(k: usize, b: usize) -> usize
+    ensures { λ r. ⌜ r ≡ homeOf k b .stripe ⌝ }
+{
+    let home = layout::block_home(k, b);
+    home.stripe
+}
+
+#[no_mangle]
+pub extern "C" fn mezgaudre_block_position(k: usize, b: usize) -> u8
+    ensures { λ r. ⌜ r ≡ homeOf k b .position ⌝ }
+{
+    let home = layout::block_home(k, b);
+    home.position
+}
+
+#[no_mangle]
+pub extern "C" fn mezgaudre_card(n: usize, s: usize, j: u8) -> u8
+    ensures { λ r. ⌜ r ≡ cardFor n s j ⌝ }
+{
+    layout::card(n, s, j)
+}
+
+#[no_mangle]
+pub extern "C" fn mezgaudre_node_on(n: usize, s: usize, card: u8) -> u8
+    ensures { λ r. ⌜ r ≡ nodeFor n s card ⌝ }
+{
+    layout::node_on(n, s, card)
 }
