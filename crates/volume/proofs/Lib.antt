@@ -1,0 +1,4 @@
+pub mod Examples
+pub mod Cases
+pub mod Each
+pub mod Steps

@@ -1,0 +1,1 @@
+// A volume of many stripes: definitions and theorems alone.
