@@ -1,0 +1,10 @@
+pub mod Asks
+pub mod Each
+pub mod Insides
+pub mod Part
+pub mod Parts
+pub mod ReadPart
+pub mod Renew
+pub mod Sent
+pub mod Sliced
+pub mod Playing
