@@ -1,0 +1,11 @@
+pub mod Looked
+pub mod Reading
+pub mod Renewed
+pub mod Types
+pub mod Ranges
+pub mod Turn
+pub mod Walked
+pub mod Fits
+pub mod Stops
+pub mod Called
+pub mod Parts

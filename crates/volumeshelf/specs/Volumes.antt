@@ -1,0 +1,97 @@
+-- The five tables that are lent, as a volume, and what the contract of an entry point says: the machine's call on it gives the answer and what is left.
+-- What is primed is as the call leaves it. Assumes nothing.
+use mathlib.Core.Bool.{Bool, cond, _&&_, not}
+use mathlib.Core.List.{List, []}
+use mathlib.Core.Path.{_≡_}
+use Prim.Native.Nat.{ℕ, _*_}
+use lib.Dec.{eqb}
+use lib.ListN.{drop, length, replicate, take}
+use Rattle.basics.specs.Lists.{listOf}
+use Rattle.calls.specs.declared.Answer.{Answer}
+use Rattle.calls.specs.declared.Answer.the-variants.{Accepted, Refused}
+use Rattle.calls.specs.Answers.{Meets}
+use Rattle.calls.specs.Calls.{stepOf}
+use Rattle.machine.specs.Calls as Calls
+use Rattle.machine.specs.Stripe.{Outcome, guard}
+use Rattle.records.specs.declared.ClientRecord.{ClientRecord}
+use Rattle.records.specs.declared.NodeRecord.{NodeRecord}
+use Rattle.records.specs.declared.Refusal.the-variants.{OutOfLimits}
+use Rattle.records.specs.Client.{freshClient}
+use Rattle.records.specs.Node.{freshNode}
+use Rattle.shelf.specs.Shelf.{stripeIn}
+use Rattle.shelf.specs.Table.{clientsIn, nodesIn}
+use Rattle.volume.specs.Volume as Machine
+use Rattle.volume.specs.Volume.{on, volumeStep}
+use Rattle.routing.specs.declared.ReadRequest.{ReadRequest}
+use Rattle.routing.specs.declared.Request.{Request}
+use Rattle.routing.specs.declared.Volume.{Volume}
+use Rattle.routing.specs.declared.VolumeCall.{VolumeCall}
+use Rattle.routing.specs.declared.VolumeCall.the-variants.{Pick, Step}
+use Rattle.routing.specs.Renewals.{freshFits}
+
+-- stripe s has `each` elements of a table, after those of the stripes before it
+abbrev pub ofStripe : {X : Type 0} → ℕ → ℕ → List X → List X
+ofStripe s each table = take each (drop (s * each) table)
+
+abbrev pub volumeIn : Volume → List NodeRecord → List ClientRecord → List ℕ → List ℕ → List ℕ → Machine.Volume
+volumeIn v nodes clients blocks spare differences =
+    let n = v .z .n in
+    let m = v .z .m in
+    let b = v .z .b in
+    record {
+      stripes = listOf (v .stripes) (λ s. stripeIn (ofStripe s n nodes) (ofStripe s m clients) (ofStripe s (n * b) blocks) (ofStripe s (n * b) spare)
+          (ofStripe s (m * b) differences));
+    }
+
+-- the call as the machine's; the bytes of a swap or a card's failure are beside it
+abbrev pub callOf : VolumeCall → List ℕ → Calls.Call
+callOf (Pick c) value = Calls.Pick c
+callOf (Step call) value = stepOf call value
+
+-- 1 for the lengths of the tables: n and m records, n blocks and as much spare, m differences for each stripe
+abbrev pub tablesFit : Volume → List NodeRecord → List ClientRecord → List ℕ → List ℕ → List ℕ → Bool
+tablesFit v nodes clients blocks spare differences =
+    let n = v .z .n in
+    let m = v .z .m in
+    let b = v .z .b in
+    eqb (length nodes) (v .stripes * n) && (eqb (length clients) (v .stripes * m) && (eqb (length blocks) (v .stripes * (n * b))
+    && (eqb (length spare) (v .stripes * (n * b)) && eqb (length differences) (v .stripes * (m * b)))))
+
+abbrev pub calling : Request → List ℕ → List NodeRecord → List ClientRecord → List ℕ → List ℕ → List ℕ → Outcome Machine.Volume
+calling q value nodes clients blocks spare differences =
+    let v = volumeIn (q .volume) nodes clients blocks spare differences in
+    guard (not (tablesFit (q .volume) nodes clients blocks spare differences)) OutOfLimits v
+    (volumeStep (q .volume .z) (on (q .stripe) (callOf (q .call) value)) v)
+
+-- where a refusal leaves all unchanged, it hands back the very tables
+abbrev pub CallsVolume : List NodeRecord → List ClientRecord → List ℕ → List ℕ → List ℕ → List ℕ → Request → Answer
+    → List NodeRecord → List ClientRecord → List ℕ → List ℕ → List ℕ → Type 0
+CallsVolume nodes clients blocks spare differences value q answer nodes′ clients′ blocks′ spare′ differences′ =
+    Meets (calling q value nodes clients blocks spare differences) answer [] (volumeIn (q .volume) nodes′ clients′ blocks′ spare′ differences′)
+    ((nodes′ ≡ nodes) × ((clients′ ≡ clients) × ((blocks′ ≡ blocks) × ((spare′ ≡ spare) × (differences′ ≡ differences)))))
+
+-- a read shows its block in a buffer of B bytes, and is lent neither the clients nor the other tables
+abbrev pub reading : ReadRequest → List ℕ → List NodeRecord → List ClientRecord → List ℕ → List ℕ → List ℕ → Outcome Machine.Volume
+reading q out nodes clients blocks spare differences =
+    let v = volumeIn (q .volume) nodes clients blocks spare differences in
+    guard
+    (not (eqb (length nodes) (q .volume .stripes * q .volume .z .n)
+    && (eqb (length blocks) (q .volume .stripes * (q .volume .z .n * q .volume .z .b)) && eqb (length out) (q .volume .z .b))))
+    OutOfLimits v (volumeStep (q .volume .z) (on (q .stripe) (Calls.Read (q .i))) v)
+
+abbrev pub ReadsVolume : List NodeRecord → List ℕ → List ℕ → ReadRequest → Answer → List ℕ → Type 0
+ReadsVolume nodes out blocks q answer out′ =
+    (clients : List ClientRecord) (spare differences : List ℕ)
+    → Meets (reading q out nodes clients blocks spare differences) answer out′ (volumeIn (q .volume) nodes clients blocks spare differences) (out′ ≡ out)
+
+-- "Fresh: zero blocks and counts, NORM, UNL, empty lists", in every stripe; or 1, with the very tables
+pub record Renewed (v : Volume) (answer : Answer) (nodes : List NodeRecord) (clients : List ClientRecord) (blocks : List ℕ) : Type 0 where
+  pub accepted : answer ≡ Accepted
+  pub nodes-are : nodesIn nodes ≡ replicate (v .stripes * v .z .n) freshNode
+  pub clients-are : clientsIn clients ≡ replicate (v .stripes * v .z .m) freshClient
+  pub blocks-are : blocks ≡ replicate (v .stripes * (v .z .n * v .z .b)) 0
+
+abbrev pub FreshVolume : List NodeRecord → List ClientRecord → List ℕ → Volume → Answer → List NodeRecord → List ClientRecord → List ℕ → Type 0
+FreshVolume nodes clients blocks v answer nodes′ clients′ blocks′ =
+    cond (freshFits v (length nodes) (length clients) (length blocks)) (Renewed v answer nodes′ clients′ blocks′)
+    ((answer ≡ Refused OutOfLimits) × ((nodes′ ≡ nodes) × ((clients′ ≡ clients) × (blocks′ ≡ blocks))))

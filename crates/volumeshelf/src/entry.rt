@@ -1,0 +1,172 @@
+// The entry points, and the calls on the part of one stripe. Each is walked by a law.
+ghost use Rattle.volumeshelf.specs.Entry.{PicksPart, StepsPart};
+ghost use Rattle.volumeshelf.specs.Volumes.{CallsVolume, FreshVolume, ReadsVolume};
+use crate::table::look_clients;
+use crate::table::look_nodes;
+use crate::table::renew_clients;
+use crate::table::renew_nodes;
+use calls::Answer;
+use records::ClientRecord;
+use records::NodeRecord;
+use routing::ReadRequest;
+use routing::Request;
+use routing::Volume;
+use routing::Walk;
+
+// A step on the tables' parts of the stripe that the call has come to.
+fn step_part(
+    nodes: &mut [NodeRecord],
+    clients: &mut [ClientRecord],
+    blocks: &mut [u8],
+    spare: &mut [u8],
+    differences: &mut [u8],
+    value: &[u8],
+    walk: Walk,
+) -> Answer
+    ensures { λ r. ⌜ StepsPart (now (nodes .entry)) (now (clients .entry)) (now (blocks .entry)) (now (spare .entry)) (now (differences .entry))
+        (now (value .entry)) walk r (now (nodes .exit)) (now (clients .exit)) (now (blocks .exit)) (now (spare .exit)) (now (differences .exit)) ⌝ }
+{
+    let n0 = nodes.len();
+    let a0 = walk.nodes_from(n0);
+    let e0 = walk.nodes_to(n0);
+    let n1 = clients.len();
+    let a1 = walk.clients_from(n1);
+    let e1 = walk.clients_to(n1);
+    let n2 = blocks.len();
+    let a2 = walk.blocks_from(n2);
+    let e2 = walk.blocks_to(n2);
+    let n3 = spare.len();
+    let a3 = walk.blocks_from(n3);
+    let e3 = walk.blocks_to(n3);
+    let n4 = differences.len();
+    let a4 = walk.differences_from(n4);
+    let e4 = walk.differences_to(n4);
+    let n5 = value.len();
+    let a5 = walk.value_from(n5);
+    let e5 = walk.value_to(n5);
+    let request = walk.step();
+    shelf::step(
+        &mut nodes[a0..e0],
+        &mut clients[a1..e1],
+        &mut blocks[a2..e2],
+        &mut spare[a3..e3],
+        &mut differences[a4..e4],
+        &value[a5..e5],
+        request,
+    )
+}
+
+// A pick on them.
+fn pick_part(
+    nodes: &mut [NodeRecord],
+    clients: &mut [ClientRecord],
+    blocks: &mut [u8],
+    spare: &mut [u8],
+    differences: &mut [u8],
+    value: &[u8],
+    walk: Walk,
+) -> Answer
+    ensures { λ r. ⌜ PicksPart (now (nodes .entry)) (now (clients .entry)) (now (blocks .entry)) (now (spare .entry)) (now (differences .entry))
+        (now (value .entry)) walk r (now (nodes .exit)) (now (clients .exit)) (now (blocks .exit)) (now (spare .exit)) (now (differences .exit)) ⌝ }
+{
+    let n0 = nodes.len();
+    let a0 = walk.nodes_from(n0);
+    let e0 = walk.nodes_to(n0);
+    let n1 = clients.len();
+    let a1 = walk.clients_from(n1);
+    let e1 = walk.clients_to(n1);
+    let n2 = blocks.len();
+    let a2 = walk.blocks_from(n2);
+    let e2 = walk.blocks_to(n2);
+    let n3 = spare.len();
+    let a3 = walk.blocks_from(n3);
+    let e3 = walk.blocks_to(n3);
+    let n4 = differences.len();
+    let a4 = walk.differences_from(n4);
+    let e4 = walk.differences_to(n4);
+    let n5 = value.len();
+    let a5 = walk.value_from(n5);
+    let e5 = walk.value_to(n5);
+    let request = walk.pick();
+    shelf::pick(
+        &mut nodes[a0..e0],
+        &mut clients[a1..e1],
+        &mut blocks[a2..e2],
+        &mut spare[a3..e3],
+        &mut differences[a4..e4],
+        &value[a5..e5],
+        request,
+    )
+}
+
+// Every call but read.
+pub fn call(
+    nodes: &mut [NodeRecord],
+    clients: &mut [ClientRecord],
+    blocks: &mut [u8],
+    spare: &mut [u8],
+    differences: &mut [u8],
+    value: &[u8],
+    request: Request,
+) -> Answer
+    ensures { λ r. ⌜ CallsVolume (now (nodes .entry)) (now (clients .entry)) (now (blocks .entry)) (now (spare .entry)) (now (differences .entry))
+        (now (value .entry)) request r (now (nodes .exit)) (now (clients .exit)) (now (blocks .exit)) (now (spare .exit)) (now (differences .exit)) ⌝ }
+{
+    let n0 = nodes.len();
+    let n1 = clients.len();
+    let n2 = blocks.len();
+    let n3 = spare.len();
+    let n4 = differences.len();
+    let n5 = value.len();
+    let begun = request.begin(n0, n1, n2, n3, n4, n5);
+    let looked = look_nodes(nodes, begun);
+    let mut walk = look_clients(clients, looked);
+    while walk.goes_on() {
+        if walk.picks() {
+            let answer = pick_part(nodes, clients, blocks, spare, differences, value, walk);
+            let next = walk.after(answer);
+            walk = next;
+        } else {
+            let answer = step_part(nodes, clients, blocks, spare, differences, value, walk);
+            let next = walk.after(answer);
+            walk = next;
+        }
+    }
+    walk.answer
+}
+
+// The block at position i of a stripe, into out.
+pub fn read(nodes: &[NodeRecord], out: &mut [u8], blocks: &[u8], request: ReadRequest) -> Answer
+    ensures { λ r. ⌜ ReadsVolume (now (nodes .entry)) (now (out .entry)) (now (blocks .entry)) request r (now (out .exit)) ⌝ }
+{
+    let n0 = nodes.len();
+    let n1 = out.len();
+    let n2 = blocks.len();
+    let walk = request.begin(n0, n1, n2);
+    let a0 = walk.nodes_from(n0);
+    let e0 = walk.nodes_to(n0);
+    let a2 = walk.blocks_from(n2);
+    let e2 = walk.blocks_to(n2);
+    let inner = walk.read();
+    let answer = shelf::read(&nodes[a0..e0], out, &blocks[a2..e2], inner);
+    walk.after(answer)
+}
+
+// Every record fresh, every block zero.
+pub fn fresh(
+    nodes: &mut [NodeRecord],
+    clients: &mut [ClientRecord],
+    blocks: &mut [u8],
+    volume: Volume,
+) -> Answer
+    ensures { λ r. ⌜ FreshVolume (now (nodes .entry)) (now (clients .entry)) (now (blocks .entry)) volume r
+        (now (nodes .exit)) (now (clients .exit)) (now (blocks .exit)) ⌝ }
+{
+    let n0 = nodes.len();
+    let n1 = clients.len();
+    let n2 = blocks.len();
+    let renewal = volume.renewal(n0, n1, n2);
+    renew_nodes(nodes, renewal);
+    renew_clients(clients, renewal);
+    renewal.zero(blocks)
+}
