@@ -104,10 +104,10 @@ pub record Ran (t : Tables) (past : List Event) : Type 0 where
   pub entered : Run tablesOf EntersOne z t past
   pub played : Run storedOf PlaysOne z (byValue t) past
 
-abbrev isBytes : List ℕ → Bool
+abbrev pub isBytes : List ℕ → Bool
 isBytes t = everyOf (λ v. ltb v 256) t
 
-bytes-are : (t : List ℕ) → isBytes t ≡ true → Bytes t
+pub bytes-are : (t : List ℕ) → isBytes t ≡ true → Bytes t
 unfolding everyOf
 bytes-are t e = record { small = at t e }
   where
