@@ -1,20 +1,25 @@
-// What is returned with an answer, as text.
+// An answer, and what is returned with it, as text.
+ghost use Prim.Native.Nat.{_≤_};
+ghost use Rattle.records.specs.Sizes.{clientLimit};
 use crate::lists::put_id;
 use crate::lists::put_set;
 use crate::nodes::put_modes;
 use crate::output::put;
 use crate::output::put_bytes;
 use crate::output::put_number;
+use crate::output::put_number_and;
 use crate::output::put_text;
+use calls::Answer;
 use records::CheckAnswer;
 use records::ClientRecord;
 use records::Finding;
 use records::Phase;
 use records::Refusal;
 use records::Returned;
+use step::Clients;
 
 // What was picked: the set, and E.
-pub fn put_picked(out: &mut [u8], mut at: usize, client: ClientRecord) -> usize {
+fn put_picked(out: &mut [u8], mut at: usize, client: ClientRecord) -> usize {
     let phase = client.phase;
     let Phase::Writing(_, set, epoch) = phase else {
         return put(out, at, b'-');
@@ -25,13 +30,13 @@ pub fn put_picked(out: &mut [u8], mut at: usize, client: ClientRecord) -> usize 
     put_number(out, at, epoch.0 as u64)
 }
 
-pub fn put_block_read(out: &mut [u8], at: usize, shown: &[u8]) -> usize {
+fn put_block_read(out: &mut [u8], at: usize, shown: &[u8]) -> usize {
     let next = put_text(out, at, b"block=");
     put_bytes(out, next, shown)
 }
 
 // What is returned with a refusal.
-pub fn put_refusal(out: &mut [u8], at: usize, why: Refusal) -> usize {
+fn put_refusal(out: &mut [u8], at: usize, why: Refusal) -> usize {
     let returned = why.returned();
     match returned {
         Returned::Nothing => put(out, at, b'-'),
@@ -51,7 +56,7 @@ fn put_check(out: &mut [u8], at: usize, told: CheckAnswer) -> usize {
 }
 
 // What a call that asks is told.
-pub fn put_finding(out: &mut [u8], at: usize, finding: Finding) -> usize {
+fn put_finding(out: &mut [u8], at: usize, finding: Finding) -> usize {
     match finding {
         Finding::Check(told) => put_check(out, at, told),
         Finding::Due(is_due) => {
@@ -62,4 +67,52 @@ pub fn put_finding(out: &mut [u8], at: usize, finding: Finding) -> usize {
             }
         }
     }
+}
+
+// What is returned with the acceptance of a call that has no word of its own; the client that picks, or 0.
+fn put_accepted(out: &mut [u8], at: usize, m: usize, picker: u8, clients: Clients) -> usize
+    requires { ⌜ m ≤ clientLimit ⌝ }
+{
+    if picker == 0 {
+        return put(out, at, b'-');
+    }
+    put_picked(out, at, clients.get(m, picker))
+}
+
+fn put_returned(
+    out: &mut [u8],
+    at: usize,
+    m: usize,
+    picker: u8,
+    answer: Answer,
+    clients: Clients,
+    shown: &[u8],
+) -> usize
+    requires { ⌜ m ≤ clientLimit ⌝ }
+{
+    match answer {
+        Answer::Accepted => put_accepted(out, at, m, picker, clients),
+        Answer::Shown => put_block_read(out, at, shown),
+        Answer::Added => put_text(out, at, b"Added"),
+        Answer::Done => put_text(out, at, b"Done"),
+        Answer::Rebuilt => put_text(out, at, b"rebuilt"),
+        Answer::Told(finding) => put_finding(out, at, finding),
+        Answer::Refused(why) => put_refusal(out, at, why),
+    }
+}
+
+// `ANSWER RETURNED`. If the call is a pick, the client that picks, else 0; all clients after the call; the block that a read shows.
+pub fn put_answer(
+    out: &mut [u8],
+    mut at: usize,
+    m: usize,
+    picker: u8,
+    answer: Answer,
+    clients: Clients,
+    shown: &[u8],
+) -> usize
+    requires { ⌜ m ≤ clientLimit ⌝ }
+{
+    at = put_number_and(out, at, answer.number() as u64, b' ');
+    put_returned(out, at, m, picker, answer, clients, shown)
 }

@@ -1,4 +1,4 @@
-// The line of sizes, read byte by byte: five numbers of any length, one space apart.
+// The line of sizes, read byte by byte: numbers of any length, one space apart. Five are the sizes of a stripe; a volume has their number before them.
 ghost use Prim.Native.Nat.{_<_};
 use records::Sizes;
 
@@ -6,10 +6,16 @@ const SPACE: u8 = b' ';
 
 // The numbers so far, clipped; the field that the line has come to, whether it is empty, and whether the line is unreadable.
 pub struct SizesReader {
-    numbers: [usize; 5],
+    numbers: [usize; 6],
     field: usize,
     is_empty: bool,
     is_bad: bool,
+}
+
+// So many stripes of these sizes.
+pub struct VolumeSizes {
+    pub stripes: usize,
+    pub z: Sizes,
 }
 
 // The number with one digit more; 10,000 for any that is larger than all sizes.
@@ -23,9 +29,9 @@ fn grown(n: usize, digit: u8) -> usize {
 
 impl SizesReader {
     pub fn new() -> Self
-        ensures { λ r. ⌜ r .field < 5 ⌝ }
+        ensures { λ r. ⌜ r .field < 6 ⌝ }
     {
-        let numbers = [0usize; 5];
+        let numbers = [0usize; 6];
         SizesReader {
             numbers,
             field: 0,
@@ -35,21 +41,21 @@ impl SizesReader {
     }
 
     fn spoiled(mut self) -> Self
-        requires { ⌜ self .field < 5 ⌝ }
-        ensures { λ r. ⌜ r .field < 5 ⌝ }
+        requires { ⌜ self .field < 6 ⌝ }
+        ensures { λ r. ⌜ r .field < 6 ⌝ }
     {
         self.is_bad = true;
         self
     }
 
     fn after_space(mut self) -> Self
-        requires { ⌜ self .field < 5 ⌝ }
-        ensures { λ r. ⌜ r .field < 5 ⌝ }
+        requires { ⌜ self .field < 6 ⌝ }
+        ensures { λ r. ⌜ r .field < 6 ⌝ }
     {
         if self.is_empty {
             return self.spoiled();
         }
-        if self.field == 4 {
+        if self.field == 5 {
             return self.spoiled();
         }
         self.field += 1;
@@ -58,8 +64,8 @@ impl SizesReader {
     }
 
     fn after_digit(mut self, digit: u8) -> Self
-        requires { ⌜ self .field < 5 ⌝ }
-        ensures { λ r. ⌜ r .field < 5 ⌝ }
+        requires { ⌜ self .field < 6 ⌝ }
+        ensures { λ r. ⌜ r .field < 6 ⌝ }
     {
         let at = self.field;
         self.numbers[at] = grown(self.numbers[at], digit);
@@ -69,8 +75,8 @@ impl SizesReader {
 
     // The next byte of the line.
     pub fn step(self, byte: u8) -> Self
-        requires { ⌜ self .field < 5 ⌝ }
-        ensures { λ r. ⌜ r .field < 5 ⌝ }
+        requires { ⌜ self .field < 6 ⌝ }
+        ensures { λ r. ⌜ r .field < 6 ⌝ }
     {
         if byte == SPACE {
             return self.after_space();
@@ -84,16 +90,36 @@ impl SizesReader {
         self.after_digit(byte - b'0')
     }
 
+    // Whether the line has numbers up to that one, counted from 0, and nothing else.
+    fn ends_at(self, last: usize) -> bool {
+        !self.is_bad && (!self.is_empty && self.field == last)
+    }
+
     // The line's end: the sizes, which are outside the limits if the line is unreadable.
     pub fn finish(self) -> Sizes {
         let numbers = self.numbers;
-        let is_read = !self.is_bad && (!self.is_empty && self.field == 4);
         Sizes {
-            k: if is_read { numbers[0] } else { 0 },
+            k: if self.ends_at(4) { numbers[0] } else { 0 },
             n: numbers[1],
             b: numbers[2],
             failures: numbers[3],
             m: numbers[4],
+        }
+    }
+
+    // The same for a volume: no stripes if the line is unreadable.
+    pub fn finish_volume(self) -> VolumeSizes {
+        let numbers = self.numbers;
+        let z = Sizes {
+            k: numbers[1],
+            n: numbers[2],
+            b: numbers[3],
+            failures: numbers[4],
+            m: numbers[5],
+        };
+        VolumeSizes {
+            stripes: if self.ends_at(5) { numbers[0] } else { 0 },
+            z: z,
         }
     }
 }

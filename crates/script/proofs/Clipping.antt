@@ -32,19 +32,19 @@ use Rattle.machine.proofs.View.{refused-at, refused-on}
 use Rattle.script.specs.Lines.{shelfLine, eventOf}
 use Rattle.script.specs.Reading.{clipNumber, clipValue, clip, clipped}
 
-clip-below : (x : ℕ) → x ≤ 255 → clipNumber x ≡ x
+pub clip-below : (x : ℕ) → x ≤ 255 → clipNumber x ≡ x
 clip-below x h = omega arith
 
-clip-above : (x : ℕ) → 255 < x → clipNumber x ≡ 255
+pub clip-above : (x : ℕ) → 255 < x → clipNumber x ≡ 255
 clip-above x h = omega arith
 
-clip-value : (room : ℕ) (v : List ℕ) → length v ≤ room → clipValue room v ≡ v
+pub clip-value : (room : ℕ) (v : List ℕ) → length v ≤ room → clipValue room v ≡ v
 unfolding clipValue
 clip-value room [] h = refl
 clip-value zero (x ∷ v) h = absurd (omega arith)
 clip-value (suc room) (x ∷ v) h = ap (λ w. x ∷ w) (clip-value room v (omega arith))
 
-clip-long : (room : ℕ) (v : List ℕ) → room < length v → room < length (clipValue room v)
+pub clip-long : (room : ℕ) (v : List ℕ) → room < length v → room < length (clipValue room v)
 unfolding clipValue
 clip-long room [] h = absurd (omega arith)
 clip-long zero (x ∷ v) h = omega arith
@@ -60,7 +60,7 @@ element-clip d l x h = by (decLe x 255)
         ap (elementAt d l) (clip-above x e) ∙ element-past d l 255 h ∙ sym (element-past d l x (omega arith))
 
 -- a number past the last is in no range
-and-false : (b : Bool) → (b && false) ≡ false
+pub and-false : (b : Bool) → (b && false) ≡ false
 and-false true = refl
 and-false false = refl
 

@@ -13,7 +13,7 @@ use borrow.Author.Tests.{eqb-true, leb-true}
 use Rattle.basics.proofs.Tests.{and-both}
 use Rattle.machine.specs.Calls.{Call}
 use Rattle.script.specs.Lines.{isDigit, digitsFrom, numeral, both, bytesOf, withOne, withTwo, withValue, withThree, callBy}
-use Rattle.script.specs.Reading.{clipNumber, clipValue, clip, clipped, kept, Stored, clippedFrom, numberFrom, valueFrom, last, afterFirst, afterSecond, withTarget}
+use Rattle.script.specs.Reading.{clipDigits, clipNumber, narrowed, clipValue, clip, clipped, kept, Stored, clippedFrom, numberFrom, valueFrom, last, afterFirst, afterSecond, withTarget}
 use Rattle.script.specs.declared.reader.Number.{Number}
 use Rattle.script.specs.declared.reader.Number.the-variants.{Empty, Digits, Bad}
 use Rattle.script.specs.declared.reader.Target.{Target}
@@ -43,17 +43,26 @@ no-digit Empty x l e = rw e
 no-digit (Digits n) x l e = rw e
 no-digit Bad x l e = refl
 
-clip-digits : (n : ℕ) (l : List ℕ) → Option·map clipNumber (digitsFrom n l) ≡ clippedFrom (clipNumber n) l
+clip-digits : (n : ℕ) (l : List ℕ) → Option·map clipDigits (digitsFrom n l) ≡ clippedFrom (clipDigits n) l
 unfolding digitsFrom clippedFrom
 clip-digits n [] = refl
 clip-digits n (x ∷ xs) =
-    let again : clipNumber (n * 10 + (x - 48)) ≡ clipNumber (clipNumber n * 10 + (x - 48)) = omega arith in
+    let again : clipDigits (n * 10 + (x - 48)) ≡ clipDigits (clipDigits n * 10 + (x - 48)) = omega arith in
     rw (map-cond, clip-digits (n * 10 + (x - 48)) xs, again)
 
-clip-numeral : (l : List ℕ) → Option·map clipNumber (numeral l) ≡ numberFrom Empty l
+-- a number as it is kept
+pub clip-whole : (l : List ℕ) → Option·map clipDigits (numeral l) ≡ numberFrom Empty l
 unfolding numeral numberFrom
-clip-numeral [] = refl
-clip-numeral (x ∷ xs) = clip-digits 0 (x ∷ xs)
+clip-whole [] = refl
+clip-whole (x ∷ xs) = clip-digits 0 (x ∷ xs)
+
+clip-twice : (n : Option ℕ) → narrowed (Option·map clipDigits n) ≡ Option·map clipNumber n
+clip-twice none = refl
+clip-twice (some n) = let same : clipNumber (clipDigits n) ≡ clipNumber n = omega arith in ap some same
+
+-- and as that of a client, a position or a node
+pub clip-numeral : (l : List ℕ) → Option·map clipNumber (numeral l) ≡ narrowed (numberFrom Empty l)
+clip-numeral l = sym (clip-twice (numeral l)) ∙ ap narrowed (clip-whole l)
 
 -- ---- values
 
@@ -139,7 +148,7 @@ module _ (room letter : ℕ) where
   swap-only false e x = refl
 
   -- the fields of a call, clipped one by one
-  pub clip-fields : (p : List ℕ) (ps : List (List ℕ)) → clipped room (callBy letter (p ∷ ps)) ≡ afterFirst room letter (numberFrom Empty p) ps
+  pub clip-fields : (p : List ℕ) (ps : List (List ℕ)) → clipped room (callBy letter (p ∷ ps)) ≡ afterFirst room letter (narrowed (numberFrom Empty p)) ps
   unfolding callBy afterFirst afterSecond
   clip-fields p [] = clip-one (numeral p) ∙ ap (withOne letter) (clip-numeral p)
   clip-fields p (b ∷ []) = rw (map-cond, clip-value (numeral p) (bytesOf b), clip-two (numeral p) (numeral b), clip-numeral p, clip-numeral b)

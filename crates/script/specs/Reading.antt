@@ -26,6 +26,10 @@ use Rattle.script.specs.declared.reader.LineReader.the-variants as Reade
 abbrev pub clipNumber : ℕ → ℕ
 clipNumber n = min n 255
 
+-- what is kept of a number while its digits are read: more than any number that a program has use for
+abbrev pub clipDigits : ℕ → ℕ
+clipDigits n = min n 1000000
+
 -- a value that the buffer has no room for: the bytes that fit, and a 0 for all that follow
 unfoldable pub clipValue : ℕ → List ℕ → List ℕ
 clipValue room [] = []
@@ -58,7 +62,7 @@ callIn (Lines.Play call count) value = some (callOf call (kept count value))
 -- n, and digits that follow it
 unfoldable pub clippedFrom : ℕ → List ℕ → Option ℕ
 clippedFrom n [] = some n
-clippedFrom n (x ∷ xs) = cond (isDigit x) (clippedFrom (clipNumber (n * 10 + (x - 48))) xs) none
+clippedFrom n (x ∷ xs) = cond (isDigit x) (clippedFrom (clipDigits (n * 10 + (x - 48))) xs) none
 
 -- the number of a field that goes on with l
 unfoldable pub numberFrom : Number → List ℕ → Option ℕ
@@ -66,6 +70,10 @@ numberFrom Numbers.Empty [] = none
 numberFrom Numbers.Empty (x ∷ xs) = clippedFrom 0 (x ∷ xs)
 numberFrom (Numbers.Digits n) l = clippedFrom n l
 numberFrom Numbers.Bad l = none
+
+-- as the number of a client, a position or a node
+abbrev pub narrowed : Option ℕ → Option ℕ
+narrowed number = Option·map clipNumber number
 
 -- the bytes of a field that goes on with l
 unfoldable pub bytesFrom : Hex → List ℕ → Option (List ℕ)
@@ -91,7 +99,7 @@ unfoldable pub afterFirst : ℕ → ℕ → Option ℕ → List (List ℕ) → O
 afterFirst room letter first [] = withOne letter first
 afterFirst room letter first (p ∷ ps) =
     cond (eqb letter 78) (last ps (withValue first (valueFrom room [] (bytesOf p))))
-    (afterSecond room letter first (numberFrom Numbers.Empty p) ps)
+    (afterSecond room letter first (narrowed (numberFrom Numbers.Empty p)) ps)
 
 abbrev pub withTarget : Target → Option (List ℕ) → Option Call
 withTarget (Targets.Fail j) value = withValue (some j) value
@@ -103,9 +111,9 @@ goesOn Readers.Unreadable value ps = none
 goesOn Readers.Start value ps = clipped (length value) (lineOf ps)
 goesOn (Readers.Letter letter) value ps = clipped (length value) (lineOf (onto letter ps))
 goesOn (Readers.First letter first) value [] = none
-goesOn (Readers.First letter first) value (p ∷ ps) = afterFirst (length value) letter (numberFrom first p) ps
+goesOn (Readers.First letter first) value (p ∷ ps) = afterFirst (length value) letter (narrowed (numberFrom first p)) ps
 goesOn (Readers.Second letter first second) value [] = none
-goesOn (Readers.Second letter first second) value (p ∷ ps) = afterSecond (length value) letter (some first) (numberFrom second p) ps
+goesOn (Readers.Second letter first second) value (p ∷ ps) = afterSecond (length value) letter (some first) (narrowed (numberFrom second p)) ps
 goesOn (Readers.Value target hex count) value [] = none
 goesOn (Readers.Value target hex count) value (p ∷ ps) = last ps (withTarget target (valueFrom (length value) (kept count value) (bytesFrom hex p)))
 
@@ -126,6 +134,10 @@ pub record Follows (reader : LineReader) (value : List ℕ) (byte : ℕ) (next :
 -- the line's end
 pub record Ends (reader : LineReader) (line : Line) : Type 0 where
   pub tells : (l value : List ℕ) → HasRead l reader value → callIn line value ≡ clipped (length value) (call l)
+
+-- the same: nothing follows
+pub record Finishes (reader : LineReader) (line : Line) : Type 0 where
+  pub tells : (value : List ℕ) → callIn line value ≡ goesOn reader value ([] ∷ [])
 
 -- r is the hexadecimal digit x, or 16 if x is none; the byte of two of them, or 256
 abbrev pub HexDigit : ℕ → ℕ → Type 0

@@ -7,7 +7,7 @@ ghost use Prim.Native.Nat.{ℕ, _+_, _-_, _*_};
 ghost use Rattle.machine.specs.Calls.{At, By};
 ghost use Rattle.calls.specs.Calls.{callOf};
 ghost use Rattle.script.specs.Lines.{isDigit, isShelfLine, shelfLine, withOne, withTwo};
-ghost use Rattle.script.specs.Reading.{HasRead, Takes, Follows, Ends, callIn, kept, withTarget, Stored, HexByte, HexDigit, clipNumber, numberFrom};
+ghost use Rattle.script.specs.Reading.{HasRead, Follows, Finishes, callIn, kept, withTarget, Stored, HexByte, HexDigit, clipDigits, clipNumber, numberFrom};
 use calls::Call;
 use calls::StepCall;
 use records::ClientCall;
@@ -21,10 +21,10 @@ pub enum Line {
     Play(Call, usize),
 }
 
-// The field of a number, so far.
+// The field of a number, so far. It is clipped at a million, which is more than any number that a program has use for.
 pub enum Number {
     Empty,
-    Digits(u8),
+    Digits(u32),
     Bad,
 }
 
@@ -95,7 +95,7 @@ impl LineReader {
 
     // The next byte of the line; the value's bytes go to the buffer, as far as it has room.
     pub fn step(self, byte: u8, value: &mut [u8]) -> LineReader
-        ensures { λ r. ⌜ Takes self (now (value .entry)) byte r (now (value .exit)) ⌝ }
+        ensures { λ r. ⌜ Follows self (now (value .entry)) byte r (now (value .exit)) ⌝ }
     {
         match self {
             LineReader::Unreadable => LineReader::Unreadable,
@@ -121,19 +121,19 @@ impl LineReader {
 
     // The line's end.
     pub fn finish(self) -> Line
-        ensures { λ r. ⌜ Ends self r ⌝ }
+        ensures { λ r. ⌜ Finishes self r ⌝ }
     {
         match self {
             LineReader::Unreadable => Line::Unreadable,
             LineReader::Start => Line::Unreadable,
             LineReader::Letter(_) => Line::Unreadable,
             LineReader::First(letter, first) => match first {
-                Number::Digits(c) => with_one(letter, c),
+                Number::Digits(c) => with_one(letter, narrow(c)),
                 Number::Empty => Line::Unreadable,
                 Number::Bad => Line::Unreadable,
             },
             LineReader::Second(letter, first, second) => match second {
-                Number::Digits(j) => with_two(letter, first, j),
+                Number::Digits(j) => with_two(letter, first, narrow(j)),
                 Number::Empty => Line::Unreadable,
                 Number::Bad => Line::Unreadable,
             },
@@ -200,14 +200,14 @@ fn with_value(target: Target, count: usize) -> Line
     }
 }
 
-fn is_digit(byte: u8) -> bool
+pub fn is_digit(byte: u8) -> bool
     ensures { λ r. ⌜ r ≡ isDigit byte ⌝ }
 {
     byte >= b'0' && byte <= b'9'
 }
 
 // The number with one byte more.
-fn extended(number: Number, byte: u8) -> Number
+pub fn extended(number: Number, byte: u8) -> Number
     ensures { λ r. ⌜ ((l : List ℕ) → numberFrom r l ≡ numberFrom number (byte ∷ l)) ⌝ }
 {
     if is_digit(byte) {
@@ -222,12 +222,23 @@ fn extended(number: Number, byte: u8) -> Number
 }
 
 // The number with one digit more, clipped.
-fn grown(n: u8, digit: u8) -> u8
+fn grown(n: u32, digit: u8) -> u32
     requires { ⌜ isDigit digit ≡ true ⌝ }
-    ensures { λ r. ⌜ r ≡ clipNumber (n * 10 + (digit - 48)) ⌝ }
+    ensures { λ r. ⌜ r ≡ clipDigits (n * 10 + (digit - 48)) ⌝ }
 {
-    let next = n as u32 * 10 + (digit - b'0') as u32;
-    if next < 255 { next as u8 } else { 255 }
+    let next = n as u64 * 10 + (digit - b'0') as u64;
+    if next < 1_000_000 {
+        next as u32
+    } else {
+        1_000_000
+    }
+}
+
+// The number of a client, a position or a node, clipped.
+pub fn narrow(n: u32) -> u8
+    ensures { λ r. ⌜ r ≡ clipNumber n ⌝ }
+{
+    if n < 255 { n as u8 } else { 255 }
 }
 
 fn first_step(letter: u8, first: Number, byte: u8) -> LineReader
@@ -239,9 +250,9 @@ fn first_step(letter: u8, first: Number, byte: u8) -> LineReader
     match first {
         Number::Digits(n) => {
             if letter == b'N' {
-                LineReader::Value(Target::Fail(n), Hex::Whole, 0)
+                LineReader::Value(Target::Fail(narrow(n)), Hex::Whole, 0)
             } else {
-                LineReader::Second(letter, n, Number::Empty)
+                LineReader::Second(letter, narrow(n), Number::Empty)
             }
         }
         Number::Empty => LineReader::Unreadable,
@@ -258,7 +269,7 @@ fn second_step(letter: u8, first: u8, second: Number, byte: u8) -> LineReader
     match second {
         Number::Digits(n) => {
             if letter == b'S' {
-                LineReader::Value(Target::Swap(first, n), Hex::Whole, 0)
+                LineReader::Value(Target::Swap(first, narrow(n)), Hex::Whole, 0)
             } else {
                 LineReader::Unreadable
             }

@@ -1,39 +1,21 @@
 // A whole script, after its line of sizes.
 ghost use mathlib.Core.Path.{_≡_};
 ghost use Prim.Native.Nat.{_*_, _≤_};
-ghost use Rattle.striperun.specs.Tables.{Within, Tables};
+ghost use Rattle.format.specs.Tables.{Within, Tables};
 ghost use Rattle.records.specs.Sizes.{nodeLimit, blockLimit};
-use super::input::Input;
-use super::input::TURNS;
-use super::input::Taken;
 use super::show::put_played;
+use super::taking::Taken;
+use super::taking::take_line;
 use calls::Answer;
 use code::Limits;
+use format::input::Input;
+use format::input::TURNS;
 use format::output::flush;
-use format::output::put_text;
 use records::Refusal;
 use records::Sizes;
 use script::reader::Line;
 use step::Played;
 use step::Stripe;
-
-// The sizes are outside the limits: each line is refused.
-pub fn refuse_lines(mut input: Input, buffer: &mut [u8], out: &mut [u8]) {
-    let mut value = [0u8; 1];
-    let mut at = 0;
-    for _ in 0..TURNS {
-        match input.line(buffer, &mut value) {
-            Taken::End => {
-                flush(out, at);
-                return;
-            }
-            Taken::Line(_, rest) => {
-                at = put_text(out, at, b"1 -\n");
-                input = rest;
-            }
-        }
-    }
-}
 
 // The records, and the place in the output, after a line.
 struct State {
@@ -127,7 +109,7 @@ fn play_lent(
     let stripe = Stripe::fresh();
     let mut state = State { stripe, at: 0 };
     for _ in 0..TURNS {
-        match input.line(buffer, value) {
+        match take_line(input, buffer, value) {
             Taken::End => {
                 flush(out, state.at);
                 return;

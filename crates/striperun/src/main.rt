@@ -1,21 +1,21 @@
 // Plays a script on a stripe of any size, and prints everything after each call.
-mod clients; // clients.rt: the client records
-mod input; // input.rt: the lines of standard input
-mod nodes; // nodes.rt: the node records with their blocks
 mod lines; // lines.rt: the lines of a script, one after the other
 mod show; // show.rt: what is printed of a call
+mod taking; // taking.rt: the next line of standard input
 
-use input::Input;
+use format::input::Input;
+use format::input::refuse_lines;
 
 fn main() {
     let mut buffer = io::large_buffer();
     let mut out = io::large_buffer();
-    let first = Input::new().sizes(&mut buffer);
-    let sizes = first.sizes;
+    let first = Input::new().first(&mut buffer);
+    let reader = first.reader;
     let input = first.input;
+    let sizes = reader.finish();
     if sizes.within() {
         lines::play_lines(sizes, input, &mut buffer, &mut out);
     } else {
-        lines::refuse_lines(input, &mut buffer, &mut out);
+        refuse_lines(input, &mut buffer, &mut out);
     }
 }

@@ -14,11 +14,11 @@ returns c = λ value. at-other refl (c .before .if1 .taken) (λ p ps. rw (c .ext
 
 returns-2 : tie.Need-returns-2
 unfolding goesOn afterFirst numberFrom clippedFrom bytesFrom
-returns-2 c = λ value. at-space refl (c .before .before .before .before .if1 .left) (λ p ps. rw (c .before .before .first .given .1, c .if2 .taken))
+returns-2 c = λ value. at-space refl (c .before .before .before .before .before .if1 .left) (λ p ps. rw (c .before .before .before .first .given .1, c .before .if2 .taken, c .narrow .ensures))
 
 returns-3 : tie.Need-returns-3
 unfolding goesOn afterFirst numberFrom clippedFrom
-returns-3 c = λ value. at-space refl (c .before .before .before .before .if1 .left) (λ p ps. rw (c .before .before .first .given .1, ne-eqb _ 78 (c .if2 .left)))
+returns-3 c = λ value. at-space refl (c .before .before .before .before .before .if1 .left) (λ p ps. rw (c .before .before .before .first .given .1, ne-eqb _ 78 (c .before .if2 .left), c .narrow2 .ensures))
 
 returns-4 : tie.Need-returns-4
 unfolding goesOn numberFrom
@@ -35,6 +35,8 @@ first-step-spec =
     (λ c κs. search needs)
     returns
     (λ c. search needs)
+    (λ c κs. search needs)
+    (λ c κs. search needs)
     (λ c. search needs)
     (λ c. search needs)
     returns-2

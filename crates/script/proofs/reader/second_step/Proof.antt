@@ -14,7 +14,7 @@ returns c = λ value. at-other refl (c .before .if1 .taken) (λ p ps. rw (c .ext
 
 returns-2 : tie.Need-returns-2
 unfolding goesOn afterSecond numberFrom clippedFrom bytesFrom
-returns-2 c = λ value. at-space refl (c .before .before .before .before .if1 .left) (λ p ps. rw (c .before .before .second .given .1, c .if2 .taken))
+returns-2 c = λ value. at-space refl (c .before .before .before .before .before .if1 .left) (λ p ps. rw (c .before .before .before .second .given .1, c .before .if2 .taken, c .narrow .ensures))
 
 returns-3 : tie.Need-returns-3
 unfolding goesOn afterSecond numberFrom clippedFrom
@@ -35,6 +35,7 @@ second-step-spec =
     (λ c κs. search needs)
     returns
     (λ c. search needs)
+    (λ c κs. search needs)
     (λ c. search needs)
     (λ c. search needs)
     returns-2

@@ -1,4 +1,5 @@
 -- The line that the reader tells is answered. Assumes nothing.
+use Rattle.script.proofs.Reading.{ends}
 use Rattle.shelfrun.proofs.Bytes.{line-answered, put-fits, small}
 use borrow.Author.Needs.{needs}
 use Rattle.shelfrun.proofs.feeding.end_line.Statement.{statement}
@@ -11,7 +12,7 @@ returns c =
     let args = at-line .before .before .before .before .before .before .args in (
       put-fits (at-answer .answer .ensures .text),
       λ x k.
-          line-answered (small (args .stripe) (args .blocks .now) (args .spare .now) (args .differences .now)) (at-line .before .finish .ensures)
+          line-answered (small (args .stripe) (args .blocks .now) (args .spare .now) (args .differences .now)) (ends (at-line .before .finish .ensures))
           (at-line .in-shelfrun .ensures _) (at-answer .answer .ensures) k,
     )
 

@@ -10,6 +10,7 @@ use Rattle.blocks.proofs.Parts.{lent-length}
 use Rattle.step.specs.View.{stripeOf}
 use Rattle.shelfrun.specs.Shelfrun.{sizes}
 use Rattle.shelfrun.specs.Feeding.{Feeds, Kept}
+use Rattle.script.proofs.Reading.{takes}
 use Rattle.shelfrun.proofs.Bytes.{feeds-none, within-line, at-end, silent-byte, line-byte, fed-all}
 use Rattle.shelfrun.proofs.feeding.feed.Statement.{statement}
 use Rattle.shelfrun.proofs.feeding.feed.Tie as tie
@@ -127,7 +128,7 @@ loop-again-2 c =
       inv .6,
       step .kept .1 .1 .0 ∙ inv .7,
       silent-byte _ (at-loop .loop .i) (at-loop .loop .out) (at-loop .loop .end) (inv .8) (test .taken)
-          (within-line (c .before .before .before .if1 .left) (step .ensures)),
+          (within-line (c .before .before .before .if1 .left) (takes (step .ensures))),
     )
 
 array-read-kept : tie.Need-array-read-kept Inv-loop μ-loop

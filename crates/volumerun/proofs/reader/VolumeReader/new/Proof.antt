@@ -1,0 +1,12 @@
+-- `volumerun::reader::VolumeReader::new` meets its contract. Assumes nothing.
+use mathlib.Core.Path.{refl}
+use Rattle.volumerun.specs.Reading.{HasRead, goesOn}
+use Rattle.volumerun.proofs.reader.VolumeReader.new.Statement.{statement}
+use Rattle.volumerun.proofs.reader.VolumeReader.new.Tie as tie
+
+returns : tie.Need-returns
+unfolding HasRead goesOn
+returns c = λ value rest. refl
+
+pub new-spec : {M : Type 1} → statement M
+new-spec = tie.close (tie.spec returns)
