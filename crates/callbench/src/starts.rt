@@ -1,7 +1,11 @@
 // What each kind of work begins with, in the largest stripe of 8 clients.
 use crate::Run;
 use crate::Work;
+use crate::runs::VOLUME_CLIENTS;
+use crate::runs::VOLUME_NODES;
 use crate::runs::run;
+use crate::runs::run_all;
+use crate::runs::run_one;
 use entries::Epoch;
 use entries::Previous;
 use entries::WriteId;
@@ -53,7 +57,9 @@ impl Work {
             0 => Work::Dues,
             1 => Work::Swaps,
             2 => Work::Adds,
-            _ => Work::Rebuild,
+            3 => Work::Rebuild,
+            4 => Work::Writes,
+            _ => Work::Card,
         }
     }
 
@@ -71,20 +77,37 @@ impl Work {
         }
     }
 
-    // So many calls with blocks of b bytes.
-    fn start(self, left: usize, b: usize) -> Run {
-        let j = match self {
-            Work::Adds => 13,
-            _ => 1,
-        };
-        let clients = match self {
-            Work::Rebuild => 1,
-            _ => 8,
-        };
-        let pick = match self {
-            Work::Rebuild => 55,
+    // The last place of a round.
+    fn last(self) -> u8 {
+        match self {
+            Work::Dues => 17,
+            Work::Swaps => 7,
+            Work::Adds => 47,
+            Work::Rebuild => 72,
+            Work::Writes => 91,
+            Work::Card => 72,
+        }
+    }
+
+    // The first place: a card's failure is before its first round.
+    fn first(self) -> u8 {
+        match self {
+            Work::Card => 73,
             _ => 0,
-        };
+        }
+    }
+
+    // The place of a pick; no round has place 255.
+    fn pick(self) -> u8 {
+        match self {
+            Work::Rebuild => 18,
+            Work::Card => 18,
+            _ => 255,
+        }
+    }
+
+    // So many calls with blocks of b bytes, in that stripe of so many.
+    fn start(self, left: usize, b: usize, stripes: usize, stripe: usize) -> Run {
         let z = Sizes {
             k: 12,
             n: 18,
@@ -94,22 +117,25 @@ impl Work {
         };
         Run {
             z: z,
-            work: self,
+            stripes: stripes,
+            stripe: stripe,
             left: left,
-            pick: pick,
-            c: 1,
-            clients: clients,
-            j: j,
+            work: self,
+            at: self.first(),
+            last: self.last(),
+            pick: self.pick(),
             number: 0,
         }
     }
 }
 
-// So many calls of the work of that number: whether a node is due; swaps at node 1, 8 at most; adds at nodes 13 to 18, 48 at most; or the 73 calls of a
-// rebuild of nodes 1 to 6, which are 18 locks, a pick, 18 writes, 18 settles and 18 unlocks. The number of the first refusal, or 0.
+// So many calls of the work of that number: whether a node is due; swaps at node 1, 8 at most; adds at nodes 13 to 18, 48 at most; the 73 calls of a rebuild
+// of nodes 1 to 6, which are 18 locks, a pick, 18 writes, 18 settles and 18 unlocks; or rounds of 8 swaps, their 48 adds and 36 sweeps. The number of the
+// first refusal, or 0. By the entry points of one stripe, where the stripe's number counts for nothing.
 #[no_mangle]
 pub extern "C" fn callbench_calls(
     work: u8,
+    stripe: usize,
     calls: usize,
     b: usize,
     value: &[u8],
@@ -120,12 +146,73 @@ pub extern "C" fn callbench_calls(
     let kind = Work::numbered(work);
     let nodes = kind.nodes();
     let clients = kind.clients();
-    let start = kind.start(calls, b);
+    let start = kind.start(calls, b, 1, stripe);
     let node_records = nodes.items;
     let client_records = clients.items;
     let end = run(
         node_records,
         client_records,
+        blocks,
+        spare,
+        differences,
+        value,
+        start,
+    );
+    end.number
+}
+
+// The same by the entry point of a volume, in stripe 0 of one.
+#[no_mangle]
+pub extern "C" fn callbench_volume_calls(
+    work: u8,
+    stripe: usize,
+    calls: usize,
+    b: usize,
+    value: &[u8],
+    blocks: &mut [u8],
+    spare: &mut [u8],
+    differences: &mut [u8],
+) -> u8 {
+    let kind = Work::numbered(work);
+    let nodes = kind.nodes();
+    let clients = kind.clients();
+    let start = kind.start(calls, b, 1, stripe);
+    let node_records = nodes.items;
+    let client_records = clients.items;
+    let end = run_one(
+        node_records,
+        client_records,
+        blocks,
+        spare,
+        differences,
+        value,
+        start,
+    );
+    end.number
+}
+
+// The same in a stripe of a fresh volume of 1,024, adds and a rebuild aside; or a card's failure, and the 73 calls of a rebuild in each stripe from that one
+// on. It takes some megabytes of the stack.
+#[no_mangle]
+pub extern "C" fn callbench_large_volume_calls(
+    work: u8,
+    stripe: usize,
+    calls: usize,
+    b: usize,
+    value: &[u8],
+    blocks: &mut [u8],
+    spare: &mut [u8],
+    differences: &mut [u8],
+) -> u8 {
+    let kind = Work::numbered(work);
+    let node = NodeRecord::fresh();
+    let client = ClientRecord::fresh();
+    let nodes = [node; VOLUME_NODES];
+    let clients = [client; VOLUME_CLIENTS];
+    let start = kind.start(calls, b, 1024, stripe);
+    let end = run_all(
+        nodes,
+        clients,
         blocks,
         spare,
         differences,

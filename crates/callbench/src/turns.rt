@@ -8,8 +8,9 @@ use calls::Answer;
 use calls::StepCall;
 use records::ClientCall;
 use records::NodeCall;
+use routing::Volume;
+use routing::VolumeCall;
 use shelf::PickRequest;
-use shelf::Request;
 
 impl Run {
     pub(crate) fn goes_on(self) -> bool
@@ -20,48 +21,98 @@ impl Run {
 
     // The next call is a pick.
     pub(crate) fn picks(self) -> bool
-        ensures { λ r. ⌜ r ≡ eqb (self .left) (self .pick) ⌝ }
+        ensures { λ r. ⌜ r ≡ eqb (self .at) (self .pick) ⌝ }
     {
-        self.left == self.pick
+        self.at == self.pick
     }
 
     pub(crate) fn pick(self) -> PickRequest
         ensures { λ r. ⌜ r .z ≡ self .z ⌝ }
     {
         let z = self.z;
-        PickRequest { z: z, c: self.c }
+        PickRequest { z: z, c: 1 }
     }
 
-    pub(crate) fn step(self) -> Request
+    pub(crate) fn step(self) -> shelf::Request
         ensures { λ r. ⌜ r .z ≡ self .z ⌝ }
     {
         let z = self.z;
         let call = self.call();
-        Request { z: z, call: call }
+        shelf::Request { z: z, call: call }
+    }
+
+    pub(crate) fn volume_pick(self) -> routing::Request
+        ensures { λ r. ⌜ r .stripe ≡ self .stripe ⌝ }
+    {
+        self.of_volume(VolumeCall::Pick(1))
+    }
+
+    pub(crate) fn volume_step(self) -> routing::Request
+        ensures { λ r. ⌜ r .stripe ≡ self .stripe ⌝ }
+    {
+        let call = self.call();
+        self.of_volume(VolumeCall::Step(call))
+    }
+
+    fn of_volume(self, call: VolumeCall) -> routing::Request
+        ensures { λ r. ⌜ r .stripe ≡ self .stripe ⌝ }
+    {
+        let z = self.z;
+        let volume = Volume {
+            stripes: self.stripes,
+            z: z,
+        };
+        routing::Request {
+            volume: volume,
+            stripe: self.stripe,
+            call: call,
+        }
     }
 
     fn call(self) -> StepCall {
         let work = self.work;
         match work {
-            Work::Dues => StepCall::Due(self.j),
-            Work::Swaps => StepCall::Swap(self.c, self.j),
-            Work::Adds => StepCall::At(NodeCall::Add, self.c, self.j),
-            Work::Rebuild => StepCall::By(self.rebuilding(), self.c),
+            Work::Dues => StepCall::Due(self.at % 18 + 1),
+            Work::Swaps => StepCall::Swap(self.at % 8 + 1, 1),
+            Work::Adds => StepCall::At(NodeCall::Add, self.at % 8 + 1, self.at / 8 + 13),
+            Work::Rebuild => StepCall::By(self.rebuilding(), 1),
+            Work::Writes => self.writing(),
+            Work::Card => self.recovering(),
         }
     }
 
-    // The locks are 18, and so are the writes, the settles and the unlocks.
+    // The locks are 18, and after the pick so are the writes, the settles and the unlocks.
     fn rebuilding(self) -> ClientCall {
-        if self.left <= 18 {
-            return ClientCall::Unlock;
+        if self.at < self.pick {
+            return ClientCall::Lock;
         }
-        if self.left <= 36 {
-            return ClientCall::Settle;
-        }
-        if self.left < self.pick {
+        if self.at < 37 {
             return ClientCall::Write;
         }
-        ClientCall::Lock
+        if self.at < 55 {
+            return ClientCall::Settle;
+        }
+        ClientCall::Unlock
+    }
+
+    // A card's failure is before the first round.
+    fn recovering(self) -> StepCall {
+        if self.last < self.at {
+            return StepCall::Fail(1);
+        }
+        StepCall::By(self.rebuilding(), 1)
+    }
+
+    // Eight swaps, each with an add at each of the six redundant nodes, and then the sweeps of a round, twice 18.
+    fn writing(self) -> StepCall {
+        if 56 <= self.at {
+            return StepCall::By(ClientCall::Sweep, 1);
+        }
+        let turn = self.at % 7;
+        if turn == 0 {
+            return StepCall::Swap(1, 1);
+        }
+        StepCall::At(NodeCall::Add, 1, turn + 12)
     }
 
     // After the answer to the next call.
@@ -76,17 +127,34 @@ impl Run {
         next
     }
 
-    // The next client's turn, or that of the first at the next node.
+    // At the next place, or in a new round.
     fn moved(mut self) -> Run {
-        if self.c < self.clients {
-            self.c = self.c + 1;
+        if self.at < self.last {
+            self.at = self.at + 1;
             return self;
         }
-        self.c = 1;
-        if self.j < 18 {
-            self.j = self.j + 1;
+        if self.at == self.last {
+            let stripe = self.next_stripe();
+            self.stripe = stripe;
         }
+        self.at = 0;
         self
+    }
+
+    // A card's rebuilds are one in each stripe, and all other work is in one.
+    fn next_stripe(self) -> usize {
+        let work = self.work;
+        match work {
+            Work::Card => self.stripe_after(),
+            _ => self.stripe,
+        }
+    }
+
+    fn stripe_after(self) -> usize {
+        if self.stripe < self.stripes {
+            return self.stripe + 1;
+        }
+        self.stripe
     }
 }
 
