@@ -144,22 +144,33 @@ def all_blocks(stripe):
     return [block(stripe.blocks, j, stripe.sizes.B) for j in range(1, stripe.sizes.n + 1)]
 
 
+def begun(stripe):
+    """The history of a fresh stripe."""
+    history = History(stripe.sizes)
+    check_steady(history, all_blocks(stripe))
+    return history
+
+
+def follow(history, call, answer, stripe):
+    """Enters a call and its answer, and checks the stripe that it left. Raises Broken."""
+    blocks = all_blocks(stripe)
+    if answer.accepted:
+        note(history, call, answer, blocks)
+    check_steady(history, blocks)
+
+
 def replay(lines, new_stripe=new_stripe):
     """Checks a striperun script; returns its history. Raises Broken."""
     lines = iter(lines)
     sizes = read_sizes(next(lines))
     demand(sizes is not None, "the sizes are outside the limits")
     stripe = new_stripe(sizes)
-    history = History(sizes)
-    check_steady(history, all_blocks(stripe))
+    history = begun(stripe)
     for at, line in enumerate(lines, start=2):
         call = read_call(line)
         answer = answer_of(stripe, call)
-        blocks = all_blocks(stripe)
         try:
-            if answer.accepted:
-                note(history, call, answer, blocks)
-            check_steady(history, blocks)
+            follow(history, call, answer, stripe)
         except Broken as broken:
             raise Broken(f"line {at}, {line.decode('latin-1')}: {broken}") from None
     return history

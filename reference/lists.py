@@ -34,9 +34,9 @@ MOODS = [
 WRITING_MOOD, CROWDING_MOOD, REBUILDING_MOOD, TIDYING_MOOD = MOODS
 
 
-def text(name, *arguments):
+def text(name, *arguments, letters=LETTERS):
     """The line of a call."""
-    fields = [LETTERS[name]]
+    fields = [letters[name]]
     for argument in arguments:
         fields.append(argument.hex().upper().encode() if isinstance(argument, bytes) else b"%d" % argument)
     return b" ".join(fields)
@@ -73,7 +73,7 @@ class Author:
         """In the last tenth, calls that nothing restores are let through."""
         for at in range(count):
             line = self.line()
-            if at < count * 9 // 10 and self.endangers(line):
+            if at < count * 9 // 10 and self.endangers(read_call(line)):
                 line = text("read", self.position())
             self.play(line)
             yield line
@@ -379,9 +379,8 @@ class Author:
 
     # --------------------------------------------------------- safety
 
-    def endangers(self, line):
+    def endangers(self, call):
         """Whether the call leaves a stripe that no rebuild could restore."""
-        call = read_call(line)
         if call is None or call.name not in ("swap", "add", "fail"):
             return False
         k, n = self.stripe.sizes.k, self.stripe.sizes.n

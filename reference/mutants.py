@@ -1,8 +1,11 @@
-"""Wrong machines: who notices them.
+"""Wrong machines and wrong volumes: who notices them.
 
-Each mutant is the text of stripe.py with one edit. A mutant is noticed by a
-random list if striperun's output differs from the machine's. Those with a
-list of their own break demand 3, and guarantee.py must say so on that list.
+Each mutant is the text of stripe.py, or of volume.py, with one edit. A mutant
+is noticed by a list if the output of striperun, or of volumerun, differs from
+that without the edit. A stripe's mutants with a list of their own break demand
+3, and guarantee.py must say so on that list. A volume's mutants are noticed by
+their own list, and by each stripe's calls made alone on it (takenout.py);
+those of its limits by their own list only.
 
     mutants.py [--seed S] [--lists N]
 """
@@ -16,8 +19,13 @@ from typing import NamedTuple
 import guarantee
 import lists
 import striperun
+import takenout
+import volumelists
+import volumerun
 
-SOURCE = (Path(__file__).parent / "stripe.py").read_text()
+FOLDER = Path(__file__).parent
+STRIPE = (FOLDER / "stripe.py").read_text()
+VOLUME = (FOLDER / "volume.py").read_text()
 
 
 class Unnoticed(Exception):
@@ -26,9 +34,9 @@ class Unnoticed(Exception):
 
 class Mutant(NamedTuple):
     name: str
-    old: str  # occurs once in stripe.py
+    old: str  # occurs once
     new: str
-    breaking: str = ""  # a list that breaks demand 3, calls separated by commas
+    own: str = ""  # a list of its own, calls separated by commas
 
 
 MUTANTS = [
@@ -285,12 +293,120 @@ MUTANTS = [
 ]
 
 
-def mutated(mutant):
-    """The stripe module with the mutant's edit."""
-    if SOURCE.count(mutant.old) != 1:
+VOLUME_MUTANTS = [
+    Mutant(
+        "rotation reversed",
+        "(card - 1 - s) % n + 1",
+        "(card - 1 + s) % n + 1",
+        "2 2 4 1 0 1, NC 1 1122, ? 1",
+    ),
+    Mutant(
+        "rotation by s + 1",
+        "(card - 1 - s) % n + 1",
+        "(card - 1 - (s + 1)) % n + 1",
+        "1 2 4 1 0 1, NC 1 11, ? 0",
+    ),
+    Mutant(
+        "the same node of every stripe",
+        "(card - 1 - s) % n + 1",
+        "card",
+        "2 2 4 1 0 1, NC 1 1122, ? 1",
+    ),
+    Mutant(
+        "the first bytes for all stripes",
+        "value[s * B : (s + 1) * B]",
+        "value[:B]",
+        "2 2 4 1 0 1, NC 1 1122, ? 1",
+    ),
+    Mutant(
+        "bytes not in stripe order",
+        "for stripe, j, part in zip(self.stripes, nodes, parts)",
+        "for stripe, j, part in zip(self.stripes, nodes, parts[::-1])",
+        "2 2 4 1 0 1, NC 1 1122, ? 0",
+    ),
+    Mutant(
+        "longer values at a card's failure",
+        "if len(value) != stripes * B:",
+        "if len(value) < stripes * B:",
+        "2 2 4 1 0 1, NC 1 112233",
+    ),
+    Mutant("card 0", "if 1 <= card <= n else 0", "if 0 <= card <= n else 0", "2 2 4 1 0 1, NC 0 1122"),
+    Mutant(
+        "card n + 1",
+        "if 1 <= card <= n else 0",
+        "if 1 <= card <= n + 1 else 0",
+        "2 2 4 1 0 1, NC 5 1122",
+    ),
+    Mutant(
+        "2 before 1 at a card's failure",
+        "        if len(value) != stripes * B:\n            return Answer(1)\n",
+        "        if node_on(n, 0, card) == 0:\n            return Answer(2)\n"
+        "        if len(value) != stripes * B:\n            return Answer(1)\n",
+        "2 2 4 1 0 1, NC 5 11",
+    ),
+    Mutant(
+        "a stop in stripe 0 only",
+        "for stripe in self.stripes)\n",
+        "for stripe in self.stripes[:1])\n",
+        "2 2 4 1 0 1, SB 1 2 01, CC 1, ? 1",
+    ),
+    Mutant(
+        "2 before 1 on a stripe",
+        "        if not all(len(value) == self.sizes.stripe.B for value in values_of(call)):\n"
+        "            return Answer(1)\n"
+        "        if not self.is_stripe(s):\n"
+        "            return Answer(2)\n",
+        "        if not self.is_stripe(s):\n"
+        "            return Answer(2)\n",
+        "2 2 4 1 0 1, 2 S 1 1 0102",
+    ),
+    Mutant(
+        "every call on stripe 0",
+        "return answer_of(self.stripes[s], call)",
+        "return answer_of(self.stripes[0], call)",
+        "2 2 4 1 0 1, 1 S 1 1 01, ? 1",
+    ),
+    Mutant(
+        "stripes counted around",
+        "        if not self.is_stripe(s):\n"
+        "            return Answer(2)\n"
+        "        return answer_of(self.stripes[s], call)",
+        "        return answer_of(self.stripes[s % self.sizes.stripes], call)",
+        "2 2 4 1 0 1, 2 R 1",
+    ),
+    Mutant(
+        "one stripe for all",
+        "self.stripes = stripes\n",
+        "self.stripes = stripes[:1] * len(stripes)\n",
+        "2 2 4 1 0 1, 0 L 1, ? 1",
+    ),
+    *[
+        Mutant(
+            f"the {records} of stripe 0",
+            "self.stripes = stripes\n",
+            "self.stripes = stripes\n"
+            "        for stripe in stripes:\n"
+            f"            stripe.{records} = stripes[0].{records}\n",
+            "2 2 4 1 0 1, 1 S 1 1 01, ? 0",
+        )
+        for records in ["nodes", "clients", "blocks", "differences"]
+    ],
+    Mutant("position without the 1", "b // k, b % k + 1", "b // k, b % k", "2 2 4 1 0 1, SB 1 1 01, ? 0"),
+    Mutant("home by position", "b // k, b % k + 1", "b % k, b // k + 1", "2 2 4 1 0 1, SB 1 1 01, ? 0"),
+]
+
+VOLUME_LIMITS = [
+    Mutant("1,025 stripes", "MAX_STRIPES = 1024", "MAX_STRIPES = 1025", "1025 2 4 1 0 1, RB 0"),
+    Mutant("1,023 stripes", "MAX_STRIPES = 1024", "MAX_STRIPES = 1023", "1024 2 4 1 0 1, RB 0"),
+]
+
+
+def mutated(mutant, source=STRIPE):
+    """The module with the mutant's edit."""
+    if source.count(mutant.old) != 1:
         raise ValueError(f"{mutant.name}: the text to edit does not occur once")
     module = types.ModuleType("mutant")
-    exec(SOURCE.replace(mutant.old, mutant.new), module.__dict__)
+    exec(source.replace(mutant.old, mutant.new), module.__dict__)
     return module
 
 
@@ -319,21 +435,71 @@ def breaks_demand3(module, lines):
     return False
 
 
+def goes_apart(module, lines):
+    """Whether a stripe's calls, made alone, give something else."""
+    try:
+        list(takenout.run(lines, module.Volume))
+    except takenout.Apart:
+        return True
+    return False
+
+
 def differs(module, lines):
     """Whether striperun's output differs."""
-    expected = striperun.run(lines)
-    got = striperun.run(lines, stripe_maker(module))
+    return unequal(striperun.run(lines), striperun.run(lines, stripe_maker(module)))
+
+
+def volume_differs(module, lines):
+    """Whether volumerun's output differs."""
+    return unequal(volumerun.run(lines), volumerun.run(lines, module.Volume))
+
+
+def unequal(expected, got):
     return any(a != b for a, b in zip(expected, got))
 
 
 def check_breaking(mutant):
     """Its own list, if any, breaks demand 3 of the mutant and not of the machine."""
-    if not mutant.breaking:
+    mutated(mutant)
+    if not mutant.own:
         return
-    lines = list(script_of(mutant.breaking))
+    lines = list(script_of(mutant.own))
     guarantee.replay(lines)
     if not breaks_demand3(mutated(mutant), lines):
         raise Unnoticed(mutant.name)
+
+
+def check_noticed(mutant):
+    """The own list of a volume's mutant notices it."""
+    if not volume_differs(mutated(mutant, VOLUME), list(script_of(mutant.own))):
+        raise Unnoticed(mutant.name)
+
+
+def check_apart(mutant):
+    """The own list of a volume's mutant notices it, and so do the stripes alone."""
+    check_noticed(mutant)
+    if not goes_apart(mutated(mutant, VOLUME), list(script_of(mutant.own))):
+        raise Unnoticed(mutant.name)
+
+
+def unnoticed(mutants, source, scripts, differs, breaks, text):
+    """The names of those that no list notices; prints a line for each."""
+    names = []
+    for mutant in mutants:
+        module = mutated(mutant, source)
+        noticed = sum(differs(module, lines) for lines in scripts)
+        broken = sum(breaks(module, lines) for lines in scripts)
+        print(f"{mutant.name}: of {len(scripts)} lists {noticed} notice, {broken} {text}", flush=True)
+        if noticed == 0:
+            names.append(mutant.name)
+    return names
+
+
+def check_own_lists():
+    checks = [(check_breaking, MUTANTS), (check_apart, VOLUME_MUTANTS), (check_noticed, VOLUME_LIMITS)]
+    for check, mutants in checks:
+        for mutant in mutants:
+            check(mutant)
 
 
 def main():
@@ -343,17 +509,12 @@ def main():
     options = options.parse_args()
     seeds = range(options.seed, options.seed + options.lists)
     scripts = [list(lists.stripe_script(seed, 2000)) for seed in seeds]
-    unnoticed = []
-    for mutant in MUTANTS:
-        check_breaking(mutant)
-        module = mutated(mutant)
-        noticed = sum(differs(module, lines) for lines in scripts)
-        broken = sum(breaks_demand3(module, lines) for lines in scripts)
-        print(f"{mutant.name}: of {len(scripts)} lists {noticed} notice, {broken} break demand 3")
-        if noticed == 0:
-            unnoticed.append(mutant.name)
-    if unnoticed:
-        raise Unnoticed(", ".join(unnoticed))
+    volume_scripts = [list(volumelists.volume_script(seed, 1000)) for seed in seeds]
+    check_own_lists()
+    names = unnoticed(MUTANTS, STRIPE, scripts, differs, breaks_demand3, "break demand 3")
+    names += unnoticed(VOLUME_MUTANTS, VOLUME, volume_scripts, volume_differs, goes_apart, "go apart")
+    if names:
+        raise Unnoticed(", ".join(names))
 
 
 if __name__ == "__main__":

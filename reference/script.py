@@ -1,4 +1,4 @@
-"""The lines that shelfrun and striperun read, and the calls they stand for.
+"""The lines that the programs read, and the calls they stand for.
 
 Document 01, "Due test and runner": fields are one space apart; a number is
 one or more decimal digits; bytes are two hexadecimal digits, capitals.
@@ -34,6 +34,17 @@ FORMS = SHELF_FORMS | {
     b"Z": ("due", 1, False),
 }
 
+# volumerun: lines of the whole volume, and after a stripe's number striperun's but these
+VOLUME_FORMS = {
+    b"RB": ("read", 1, False),
+    b"SB": ("swap", 2, True),
+    b"CC": ("stop", 1, False),
+    b"NC": ("fail", 1, True),
+    b"?": ("look", 1, False),
+}
+NOT_OF_ONE_STRIPE = {b"C", b"N", b"V", b"M", b"J"}
+ONE_STRIPE_FORMS = {letter: form for letter, form in FORMS.items() if letter not in NOT_OF_ONE_STRIPE}
+
 DIGITS = re.compile(rb"[0-9]+")
 BYTES = re.compile(rb"(?:[0-9A-F]{2})+")
 
@@ -61,6 +72,12 @@ def numbers(fields):
     return tuple(number(field) for field in fields)
 
 
+def numbers_of(line, count):
+    """The line's numbers, or None if it isn't just so many."""
+    fields = numbers(line.split(b" "))
+    return fields if fields is not None and len(fields) == count else None
+
+
 def read_call(line, forms=FORMS):
     """The call that a line without its LF stands for, or None if unreadable."""
     letter, *fields = line.split(b" ")
@@ -79,11 +96,40 @@ def read_call(line, forms=FORMS):
     return Call(name, arguments)
 
 
-def answer_of(stripe, call):
+def read_volume_call(line):
+    """The volume's call; after a stripe's number it is a call of that stripe."""
+    first, _, rest = line.partition(b" ")
+    if not DIGITS.fullmatch(first):
+        return read_call(line, VOLUME_FORMS)
+    call = read_call(rest, ONE_STRIPE_FORMS)
+    return call and Call("on_stripe", (number(first), call))
+
+
+def values_of(call):
+    """The bytes that a call gives, at most one string of them."""
+    if call.name == "on_stripe":
+        _, call = call.arguments
+    return [argument for argument in call.arguments if isinstance(argument, bytes)]
+
+
+def answer_of(machine, call):
     """Makes the call; None, an unreadable line, is answered 1."""
     if call is None:
         return Answer(1)
-    return getattr(stripe, call.name)(*call.arguments)
+    return getattr(machine, call.name)(*call.arguments)
+
+
+def played(lines, read_sizes, play):
+    """The output of a program whose first line has the sizes.
+
+    Where they are unreadable or outside the limits, each line is answered 1.
+    """
+    lines = iter(lines)
+    first = next(lines, None)
+    if first is None:
+        return
+    sizes = read_sizes(first)
+    yield from ("1 -" for _ in lines) if sizes is None else play(sizes, lines)
 
 
 def lines_of(stream):

@@ -15,11 +15,15 @@ import lists
 import mutants
 import shelfrun
 import striperun
+import takenout
+import volumelists
+import volumerun
 from answers import ACCEPTED, Answer
-from script import answer_of, lines_of, read_call
+from script import answer_of, lines_of, read_call, read_volume_call
 from stripe import INIT, L0, L1, MAX_EPOCH, MAX_WRITES, NORM, PICKING, RECONS
 from stripe import Entry, Node, Rebuild, Sizes, WriteId
 from striperun import new_stripe
+from volume import VolumeSizes, card_of, home, node_on
 
 EXAMPLES = Path(__file__).parent / "examples"
 
@@ -308,10 +312,8 @@ def test_answers_occur():
 
 
 def test_wrong_machines():
-    """guarantee.py notices each wrong machine that breaks demand 3."""
-    for mutant in mutants.MUTANTS:
-        mutants.mutated(mutant)
-        mutants.check_breaking(mutant)
+    """guarantee.py notices each wrong machine that breaks demand 3, takenout.py each wrong volume."""
+    mutants.check_own_lists()
 
 
 def test_picking_phase_after_11():
@@ -319,6 +321,106 @@ def test_picking_phase_after_11():
     equal(answer, Answer(11, 3))
     equal(stripe.clients[2].rebuild, Rebuild(PICKING, old_lmodes=["UNL"] * 4))
     equal(stripe.spare, b"\xAA" * 4)
+
+
+# ------------------------------------------------------------------ volumes
+
+
+def test_homes():
+    """Each block has a single home, each home a block."""
+    for k in range(2, 13):
+        homes = [(s, i) for s in range(1024) for i in range(1, k + 1)]
+        equal([home(k, b) for b in range(1024 * k)], homes)
+
+
+def test_cards():
+    """Within a stripe no card is used twice, and each card is one node."""
+    for n in range(3, 19):
+        for s in range(1024):
+            cards = [card_of(n, s, j) for j in range(1, n + 1)]
+            equal(sorted(cards), list(range(1, n + 1)))
+            equal([node_on(n, s, card) for card in cards], list(range(1, n + 1)))
+            equal([node_on(n, s, card) for card in (0, n + 1, n + n)], [0, 0, 0])
+    equal([card_of(4, 1, j) for j in (1, 2, 3, 4)], [2, 3, 4, 1])
+
+
+def test_volume_sizes():
+    of_stripe = Sizes(2, 4, 1, 1, 2)
+    for stripes, permitted in [(0, False), (1, True), (1024, True), (1025, False)]:
+        equal(VolumeSizes(stripes, of_stripe).permitted(), permitted)
+    equal(VolumeSizes(1, Sizes(2, 5, 1, 1, 2)).permitted(), False)
+    for first in [b"0 2 4 1 1 2", b"1025 2 4 1 1 2", b"2 4 1 1 2", b"1 2 4 1 1 2 2", b"1 2 5 1 1 2", b""]:
+        equal(list(volumerun.run([first, b"RB 0", b"", b"? 0"])), ["1 -"] * 3)
+    equal(list(volumerun.run([])), [])
+
+
+def test_memory_of_volumerun():
+    """No volume within the limits has too many records; bytes bound the others."""
+    for first in [b"8 2 4 4096 1 8", b"1024 12 18 1 1 8", b"1024 10 16 8 0 8", b"9 2 3 3640 0 1"]:
+        (got,) = volumerun.run([first, b"RB 0"])
+        must(got.startswith("0 block=00"), f"{first} prints {got}")
+    for first in [b"9 2 4 4096 1 1", b"1024 12 18 8 1 1", b"9 2 3 3641 0 1", b"1024 2 3 33 0 8"]:
+        equal(list(volumerun.run([first, b"RB 0", b"RB 0"])), ["too large"])
+
+
+VOLUME_ANSWERS = {
+    "1": [
+        *[b"", b"0", b"0 ", b"R 1", b" 0 R 1", b"0  R 1", b"-0 R 1", b"x R 1", b"0 0 R 1", b"3 r 1"],
+        *[b"0 RB 0", b"0 ? 0", b"?", b"? ", b"? 0 0", b"C 1", b"N 1 00", b"CC", b"CC 1 1"],
+        *[b"0 C 1", b"0 N 1 00", b"3 N 1 00", b"0 V 00", b"0 M", b"0 J 00"],
+        *[b"0 S 1 1 0102", b"3 S 1 1 0102", b"3 S 9 9 0102"],
+        *[b"SB 1 0", b"SB 1 0 0102", b"SB 1 6 0102", b"SB 9 6 0102"],
+        *[b"NC 1", b"NC 1 00", b"NC 1 0102", b"NC 1 01020304", b"NC 0 0102", b"NC 5 01020304"],
+    ],
+    "2": [
+        *[b"3 R 1", b"3 S 1 1 01", b"3 Z 1", b"3 L 9", b"18446744073709551616 R 1"],
+        *[b"2 L 9", b"2 Z 5", b"2 S 9 1 01", b"? 3", b"? 4294967296", b"CC 0", b"CC 3"],
+        *[b"RB 6", b"RB 7", b"RB 18446744073709551616"],
+        *[b"SB 1 6 01", b"SB 9 0 01", b"SB 9 6 01", b"SB 0 0 01"],
+        *[b"NC 0 010203", b"NC 5 010203", b"NC 4294967297 010203"],
+    ],
+    "0": [b"2 R 1", b"02 R 01", b"RB 5", b"RB 005", b"? 2", b"2 Z 4", b"CC 2", b"NC 4 010203", b"SB 2 5 01"],
+}
+
+
+def test_lines_of_volumerun():
+    for number, lines in VOLUME_ANSWERS.items():
+        for line in lines:
+            (got,) = takenout.run([b"3 2 4 1 1 2", line])
+            equal((line, got.split(" ")[0]), (line, number))
+            must(number == "0" or got == f"{number} -", f"{line} prints {got}")
+
+
+def test_lost_cards():
+    """Whatever card is lost, every block is read back after the rebuilds."""
+    rng = random.Random(1)
+    for first in [b"1 2 3 1 1 1", b"3 2 4 2 1 2", b"9 3 5 1 2 3", b"2 12 18 1 6 4"]:
+        sizes = volumerun.read_sizes(first)
+        for card in range(1, sizes.stripe.n + 1):
+            lines = volumelists.lost_card(rng, sizes, range(sizes.stripes), card)
+            check_read_back(lines, takenout.run([first, *lines]))
+
+
+def check_read_back(lines, output):
+    values = {}
+    for line, shown in zip(lines, output, strict=True):
+        call = read_volume_call(line)
+        if call.name == "swap":
+            values[call.arguments[1]] = call.arguments[2]
+        if call.name == "read":
+            equal(shown, f"0 block={values[call.arguments[0]].hex().upper()}")
+
+
+def test_stripes_taken_out():
+    """The calls of each stripe give the same on a stripe of its own, and demand 3 holds of them."""
+    seen = Counter()
+    for seed in range(20):
+        lines = b"\n".join(volumelists.volume_script(seed, 1000)).split(b"\n")
+        for line, shown in zip(lines[1:], takenout.run(lines), strict=True):
+            seen[shown] += 1
+            seen[line[:2]] += shown == "0 -"
+    for what, floor in [("0 rebuilt", 100), (b"CC", 40), (b"NC", 40)]:
+        must(seen[what] > floor, f"{what} occurs {seen[what]} times")
 
 
 def main():

@@ -6,7 +6,7 @@ the output is that of the team's page on striperun.
 
 import sys
 
-from script import answer_of, lines_of, numbers, read_call
+from script import answer_of, lines_of, numbers_of, played, read_call
 from stripe import Sizes, Stripe
 
 SPARE_BYTE = b"\xAA"
@@ -15,11 +15,9 @@ DIFFERENCE_BYTE = b"\x55"
 
 def read_sizes(line):
     """The sizes, or None if the line is unreadable or outside the limits."""
-    fields = numbers(line.split(b" "))
-    if fields is None or len(fields) != 5:
-        return None
-    sizes = Sizes(*fields)
-    return sizes if sizes.permitted() else None
+    fields = numbers_of(line, 5)
+    sizes = fields and Sizes(*fields)
+    return sizes if sizes and sizes.permitted() else None
 
 
 def new_stripe(sizes):
@@ -92,21 +90,16 @@ def show_returned(call, answer):
     return str(answer.value)
 
 
-def run(lines, new_stripe=new_stripe):
-    """The output lines for the lines of a script."""
-    lines = iter(lines)
-    first = next(lines, None)
-    if first is None:
-        return
-    sizes = read_sizes(first)
-    if sizes is None:
-        yield from ("1 -" for _ in lines)
-        return
-    stripe = new_stripe(sizes)
+def play(stripe, lines):
     for line in lines:
         call = read_call(line)
         answer = answer_of(stripe, call)
         yield f"{answer.number} {show_returned(call, answer)} | {show_state(stripe)}"
+
+
+def run(lines, new_stripe=new_stripe):
+    """The output lines for the lines of a script."""
+    return played(lines, read_sizes, lambda sizes, calls: play(new_stripe(sizes), calls))
 
 
 def main():

@@ -10,14 +10,13 @@ difference with an error exit.
 """
 
 import itertools
-import multiprocessing
 import random
 import subprocess
 import sys
 import time
 from collections import Counter
 
-from against import compared, in_order
+from against import compared, in_order, pool
 from lists import shelf_author
 from script import SHELF_FORMS, read_call
 from shelfrun import run
@@ -182,8 +181,8 @@ def main():
     dribble()
     whole = sum((counts(input) for input in inputs()), Counter())
     show("odd inputs", whole)
-    with multiprocessing.Pool() as pool:
-        seen = sum(pool.imap_unordered(random_list, range(SEED * 1000, SEED * 1000 + LISTS)), Counter())
+    with pool() as workers:
+        seen = sum(workers.imap_unordered(random_list, range(SEED * 1000, SEED * 1000 + LISTS)), Counter())
     show("lists", seen)
     whole += seen
     print("answers:", in_order(whole, range(13)))

@@ -10,12 +10,12 @@ were finished; stops at the first difference with an error exit.
 """
 
 import itertools
-import multiprocessing
 import random
 import sys
 from collections import Counter
 
-from against import compared, in_order
+from against import compared, in_order, pool
+from firstlines import BAD_SIZES, GOOD_SIZES
 from lists import Author, stripe_author
 from script import FORMS
 from stripe import Sizes
@@ -30,46 +30,6 @@ DAMAGED_CALLS = 500
 
 SCRIPT = b"S 1 1 0102\nA 1 3\nL 2\nR 1\nZ 1\nQ 2\nbogus"
 
-# First lines: readable and within the limits, then not.
-GOOD_SIZES = [
-    b"2 3 2 0 1",
-    b"2 4 2 2 8",
-    b"02 004 2 1 2",
-    b"0" * 5000 + b"2 4 2 1 2",
-    b"12 18 4096 6 8",
-]
-BAD_SIZES = [
-    b"1 2 2 1 2",
-    b"13 14 2 1 2",
-    b"2 2 2 0 2",
-    b"3 2 2 0 2",
-    b"2 5 2 1 2",
-    b"12 19 2 1 2",
-    b"2 4 0 1 2",
-    b"2 4 4097 1 2",
-    b"2 4 2 3 2",
-    b"2 4 2 1 0",
-    b"2 4 2 1 9",
-    b"2 4 2 1 18446744073709551618",
-    b"4294967298 4 2 1 2",
-    b"9" * 5000 + b" 4 2 1 2",
-    b"2 4 2 1",
-    b"2 4 2 1 ",
-    b"2 4 2 1 2 ",
-    b"2 4 2 1 2 2",
-    b" 2 4 2 1 2",
-    b"2  4 2 1 2",
-    b"2 4 2 1 2\r",
-    b"2\t4 2 1 2",
-    b"-2 4 2 1 2",
-    b"2 4 2 1 2.0",
-    b"2 4 2 1 /",
-    b"2 4 2 1 :",
-    b"2 4 2 1 \xb2",
-    b"2 4 2 1 2\0",
-    b"k n B t_d m",
-    b"",
-]
 MEGABYTE = 2**20
 ODD_INPUTS = [
     b"",
@@ -157,10 +117,10 @@ def main():
     seen = counts(ageing_script())
     show("a write that ages", seen)
     whole += seen
-    with multiprocessing.Pool() as pool:
+    with pool() as workers:
         for name, make in [("damaged lists", damaged_script), ("lists", random_script)]:
             jobs = [(make, SEED * 1000 + at, sizes) for at, sizes in enumerate(random_lists())]
-            seen = sum(pool.imap_unordered(play, jobs), Counter())
+            seen = sum(workers.imap_unordered(play, jobs), Counter())
             show(name, seen)
             whole += seen
     print("answers:", in_order(whole, range(13)))
