@@ -210,14 +210,6 @@ pub extern "C" fn callbench_large_volume_calls(
     let nodes = [node; VOLUME_NODES];
     let clients = [client; VOLUME_CLIENTS];
     let start = kind.start(calls, b, 1024, stripe);
-    let end = run_all(
-        nodes,
-        clients,
-        blocks,
-        spare,
-        differences,
-        value,
-        start,
-    );
+    let end = run_all(nodes, clients, blocks, spare, differences, value, start);
     end.number
 }

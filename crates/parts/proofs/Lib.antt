@@ -8,3 +8,5 @@ pub mod Renew
 pub mod Sent
 pub mod Sliced
 pub mod Playing
+pub mod Steps
+pub mod Route

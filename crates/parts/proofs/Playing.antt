@@ -84,7 +84,7 @@ use Rattle.lent.proofs.Frees.{gone, unused}
 use Rattle.lent.proofs.Local.{Table, arrayTy, array-typed-at, Lies, room, laid, freed, loan, Rest, gives-out, takes-back}
 use Rattle.lent.proofs.Pure.{Got, calls-given, gives}
 use Rattle.lent.proofs.Side.{Side, Take, Ask, endsAs, asks, the-value}
-use Rattle.parts.proofs.Each.{makes, views}
+use Rattle.parts.proofs.Steps.{makes, views}
 use Rattle.parts.proofs.ReadPart.{Go, reads, Given-to as Given-read}
 
 -- the value of a boolean that is known

@@ -155,6 +155,10 @@ picksCall (Step call) = false
 abbrev pub picksOf : Walk → Bool
 picksOf w = picksCall (w .call)
 
+-- a step on one stripe alone
+abbrev pub isOneStep : Walk → Bool
+isOneStep w = goesOn w && (not (picksOf w) && not (isOfEachCall (w .call)))
+
 abbrev pub stepRequestOf : Walk → Request
 stepRequestOf w = record { z = w .volume .z; call = stepIn (w .call) (w .volume .z .n) (w .at) }
 

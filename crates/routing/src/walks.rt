@@ -2,7 +2,7 @@
 ghost use mathlib.Core.Path.{_≡_};
 ghost use Rattle.routing.specs.Parts.{partFrom, partTo, tableBlocks, tableDifferences};
 ghost use Rattle.volume.specs.Volume.{isStop};
-ghost use Rattle.routing.specs.Walks.{afterOf, begunOf, clientEnd, clientsBegun, goesOn, isFailureCall, isFailureStep, isOfEachCall};
+ghost use Rattle.routing.specs.Walks.{afterOf, begunOf, clientEnd, clientsBegun, goesOn, isFailureCall, isFailureStep, isOfEachCall, isOneStep};
 ghost use Rattle.routing.specs.Walks.{isStopCall, isStopStep, looksOf, nodeEnd, nodesBegun, picksOf, pickRequestOf, refusedWalk, seenClient, seenNode, stepIn};
 ghost use Rattle.routing.specs.Walks.{stepFor, stepRequestOf, stoppingOf, valueFits, valueFitsStep, valueFrom, valueTo, walkFits};
 use crate::Request;
@@ -249,7 +249,7 @@ impl Walk {
 
     // ---- before a stop every node's record is looked at, and the client's in every stripe
 
-    fn looks(self) -> bool
+    pub fn looks(self) -> bool
         ensures { λ r. ⌜ r ≡ looksOf self ⌝ }
     {
         let call = self.call;
@@ -352,6 +352,14 @@ impl Walk {
             VolumeCall::Pick(_) => true,
             VolumeCall::Step(_) => false,
         }
+    }
+
+    // Whether it is a step on one stripe alone.
+    pub fn is_one_step(self) -> bool
+        ensures { λ r. ⌜ r ≡ isOneStep self ⌝ }
+    {
+        let call = self.call;
+        self.goes_on() && (!self.picks() && !call.is_of_each())
     }
 
     // What shelf is asked, on the stripe's own tables.

@@ -1,4 +1,4 @@
--- What `call` says, from what its callees say. Assumes nothing.
+-- What a call says whose looks and turns are known. Assumes nothing.
 use mathlib.Core.Bool.{Bool, true, false, cond, _&&_, not}
 use mathlib.Core.List.{List, [], map}
 use mathlib.Core.Logic.{_⊎_, inl, inr}
@@ -28,7 +28,6 @@ use Rattle.machine.specs.Calls as Calls
 use Rattle.machine.specs.Stripe as Machine
 use Rattle.machine.specs.Stripe.{Outcome, Stripe, answered, guard, nodesFit, number, refused}
 use Rattle.parts.specs.Turns.{Turns, none, more}
-use Rattle.parts.proofs.Each.{Implied}
 use Rattle.records.specs.declared.ClientCall.{ClientCall}
 use Rattle.records.specs.declared.ClientCall.the-variants.{Drop, Sweep, Stop, Lock, Weaken, Tighten, Write, Settle, Unlock, Quit}
 use Rattle.records.specs.declared.ClientRecord.{ClientRecord}
@@ -48,7 +47,7 @@ use Rattle.routing.specs.declared.Volume.{Volume}
 use Rattle.routing.specs.declared.VolumeCall.{VolumeCall}
 use Rattle.routing.specs.declared.VolumeCall.the-variants.{Pick, Step}
 use Rattle.routing.specs.declared.Walk.{Walk}
-use Rattle.volumeshelf.specs.Entry.{ClientsLooked, NodesLooked, PicksPart, StepsPart}
+use Rattle.volumeshelf.specs.Entry.{ClientsLooked, NodesLooked}
 use Rattle.routing.specs.Parts.{volumeWithin}
 use Rattle.volumeshelf.specs.Volumes.{CallsVolume, callOf, calling, volumeIn}
 use Rattle.routing.specs.Walks.{Looks, afterOf, begunOf, clientEnd, goesOn, isFailureCall, isOfEachCall, isPlaceOf, isStopCall, looksOf, nodeEnd, picksOf, stoppingOf, walkFits, walkTo}
@@ -278,10 +277,10 @@ module _ (q : Request) (value : List ℕ) (t₀ : Lent) where
 
   -- ---- the walk from its beginning
 
-  abbrev begun : Walk
+  abbrev pub begun : Walk
   begun = begunOf q (length (t₀ .nodes)) (length (t₀ .clients)) (length (t₀ .blocks)) (length (t₀ .spare)) (length (t₀ .differences)) (length value)
 
-  abbrev fits : Bool
+  abbrev pub fits : Bool
   fits = walkFits q (length (t₀ .nodes)) (length (t₀ .clients)) (length (t₀ .blocks)) (length (t₀ .spare)) (length (t₀ .differences)) (length value)
 
   -- a call of each stripe in the code is one in the machine
@@ -411,16 +410,16 @@ module _ (q : Request) (value : List ℕ) (t₀ : Lent) where
 
   -- ---- where the walk begins
 
-  begun-refused : fits ≡ false → begun ≡ walkTo v (q .call) 0 0 (Refused OutOfLimits)
+  pub begun-refused : fits ≡ false → begun ≡ walkTo v (q .call) 0 0 (Refused OutOfLimits)
   begun-refused e = rw e
 
-  begun-each : fits ≡ true → isOfEachCall (q .call) ≡ true → begun ≡ walkTo v (q .call) 0 (v .stripes) Accepted
+  pub begun-each : fits ≡ true → isOfEachCall (q .call) ≡ true → begun ≡ walkTo v (q .call) 0 (v .stripes) Accepted
   begun-each e f = rw (e, f)
 
-  begun-outside : fits ≡ true → isOfEachCall (q .call) ≡ false → leb (v .stripes) (q .stripe) ≡ true → begun ≡ walkTo v (q .call) 0 0 (Refused OutOfRange)
+  pub begun-outside : fits ≡ true → isOfEachCall (q .call) ≡ false → leb (v .stripes) (q .stripe) ≡ true → begun ≡ walkTo v (q .call) 0 0 (Refused OutOfRange)
   begun-outside e f g = rw (e, f, g)
 
-  begun-one : fits ≡ true → isOfEachCall (q .call) ≡ false → leb (v .stripes) (q .stripe) ≡ false
+  pub begun-one : fits ≡ true → isOfEachCall (q .call) ≡ false → leb (v .stripes) (q .stripe) ≡ false
       → begun ≡ walkTo v (q .call) (q .stripe) (suc (q .stripe)) Accepted
   begun-one e f g = rw (e, f, g)
 
@@ -475,7 +474,12 @@ fail-call (Step (By op c)) e = clash e refl
 
 -- ---- all of it
 
-pub called : Implied picksOf PicksPart StepsPart goesOn afterOf (λ w. w .answer) begunOf NodesLooked ClientsLooked CallsVolume
+pub called : (nodes : List NodeRecord) (clients : List ClientRecord) (blocks spare differences value : List ℕ) (q : Request) (w₁ w₂ w : Walk) (t : Lent)
+    → NodesLooked nodes (begunOf q (length nodes) (length clients) (length blocks) (length spare) (length differences) (length value)) w₁
+    → ClientsLooked clients w₁ w₂
+    → Turns goesOn (Makes value) afterOf w₂ (record { nodes = nodes; clients = clients; blocks = blocks; spare = spare; differences = differences }) w t
+    → goesOn w ≡ false
+    → CallsVolume nodes clients blocks spare differences value q (w .answer) (t .nodes) (t .clients) (t .blocks) (t .spare) (t .differences)
 called nodes clients blocks spare differences value q w₁ w₂ w t n c turns ended = by (bool-cases (fits q value t₀))
   where
     t₀ : Lent

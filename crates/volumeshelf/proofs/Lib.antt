@@ -9,3 +9,4 @@ pub mod Fits
 pub mod Stops
 pub mod Called
 pub mod Parts
+pub mod Ways

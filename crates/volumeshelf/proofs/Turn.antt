@@ -22,8 +22,8 @@ use Rattle.machine.specs.Calls as Calls
 use Rattle.machine.specs.Stripe.{Stripe, answered, guard}
 use Rattle.machine.proofs.Refusals.{refusals-same}
 use Rattle.parts.specs.Inside.{Only, partIn}
+use Rattle.parts.specs.Turns as turns
 use Rattle.parts.specs.Turns.{Tables}
-use Rattle.parts.proofs.Each as each
 use Rattle.records.specs.declared.ClientRecord.{ClientRecord}
 use Rattle.records.specs.declared.NodeRecord.{NodeRecord}
 use Rattle.shelf.specs.Shelf.{PicksOnly, StepsLent, onTables, stripeIn}
@@ -47,7 +47,7 @@ Lent = Tables NodeRecord ClientRecord
 
 -- what the contract of a turn says, by whether it is a pick
 abbrev pub Makes : List ℕ → Lent → Walk → Answer → Lent → Type 0
-Makes = each.Makes picksOf PicksPart StepsPart
+Makes = turns.Makes picksOf PicksPart StepsPart
 
 -- the tables have their lengths
 pub record Fit (v : Volume) (t : Lent) : Type 0 where

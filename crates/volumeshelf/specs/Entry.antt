@@ -6,6 +6,7 @@ use Prim.Native.Nat.{ℕ, _≤_}
 use lib.ListN.{getD, length, replicate}
 use Rattle.calls.specs.declared.Answer.{Answer}
 use Rattle.parts.specs.Inside.{Inside, Range}
+use Rattle.parts.specs.Turns.{Gone}
 use Rattle.records.specs.declared.ClientRecord.{ClientRecord}
 use Rattle.records.specs.declared.NodeRecord.{NodeRecord}
 use Rattle.records.specs.Client.{clientWithin, freshClient}
@@ -18,7 +19,7 @@ use Rattle.stripe.specs.View.{blankRecord}
 use Rattle.routing.specs.declared.Renewal.{Renewal}
 use Rattle.routing.specs.declared.Walk.{Walk}
 use Rattle.routing.specs.Parts.{partOf, tableBlocks, tableDifferences}
-use Rattle.routing.specs.Walks.{Looks, clientEnd, isPlaceOf, nodeEnd, pickRequestOf, stepRequestOf, stoppingOf, valueFrom, valueTo}
+use Rattle.routing.specs.Walks.{Looks, afterOf, clientEnd, goesOn, isPlaceOf, nodeEnd, pickRequestOf, picksOf, stepRequestOf, stoppingOf, valueFrom, valueTo}
 
 -- every node's record, and the client's in every stripe
 abbrev pub NodesLooked : List NodeRecord → Walk → Walk → Type 0
@@ -63,6 +64,11 @@ StepsPart = OnParts StepsLent stepRequestOf
 abbrev pub PicksPart : List NodeRecord → List ClientRecord → List ℕ → List ℕ → List ℕ → List ℕ → Walk → Answer
     → List NodeRecord → List ClientRecord → List ℕ → List ℕ → List ℕ → Type 0
 PicksPart = OnParts PicksOnly pickRequestOf
+
+-- the stripes that the call goes to, one after the other; the answer is that of the last
+abbrev pub Goes : List NodeRecord → List ClientRecord → List ℕ → List ℕ → List ℕ → List ℕ → Walk → Answer
+    → List NodeRecord → List ClientRecord → List ℕ → List ℕ → List ℕ → Type 0
+Goes = Gone picksOf PicksPart StepsPart goesOn afterOf (λ w. w .answer)
 
 -- ---- a fresh volume
 

@@ -1,5 +1,5 @@
 // The entry points, and the calls on the part of one stripe. Each is walked by a law.
-ghost use Rattle.volumeshelf.specs.Entry.{PicksPart, StepsPart};
+ghost use Rattle.volumeshelf.specs.Entry.{Goes, PicksPart, StepsPart};
 ghost use Rattle.volumeshelf.specs.Volumes.{CallsVolume, FreshVolume, ReadsVolume};
 use crate::table::look_clients;
 use crate::table::look_nodes;
@@ -99,6 +99,78 @@ fn pick_part(
     )
 }
 
+// The same where the call goes to one stripe alone.
+fn step_one(
+    nodes: &mut [NodeRecord],
+    clients: &mut [ClientRecord],
+    blocks: &mut [u8],
+    spare: &mut [u8],
+    differences: &mut [u8],
+    value: &[u8],
+    walk: Walk,
+) -> Answer
+    ensures { λ r. ⌜ StepsPart (now (nodes .entry)) (now (clients .entry)) (now (blocks .entry)) (now (spare .entry)) (now (differences .entry))
+        (now (value .entry)) walk r (now (nodes .exit)) (now (clients .exit)) (now (blocks .exit)) (now (spare .exit)) (now (differences .exit)) ⌝ }
+{
+    let n0 = nodes.len();
+    let a0 = walk.nodes_from(n0);
+    let e0 = walk.nodes_to(n0);
+    let n1 = clients.len();
+    let a1 = walk.clients_from(n1);
+    let e1 = walk.clients_to(n1);
+    let n2 = blocks.len();
+    let a2 = walk.blocks_from(n2);
+    let e2 = walk.blocks_to(n2);
+    let n3 = spare.len();
+    let a3 = walk.blocks_from(n3);
+    let e3 = walk.blocks_to(n3);
+    let n4 = differences.len();
+    let a4 = walk.differences_from(n4);
+    let e4 = walk.differences_to(n4);
+    let n5 = value.len();
+    let a5 = walk.value_from(n5);
+    let e5 = walk.value_to(n5);
+    let request = walk.step();
+    shelf::step(
+        &mut nodes[a0..e0],
+        &mut clients[a1..e1],
+        &mut blocks[a2..e2],
+        &mut spare[a3..e3],
+        &mut differences[a4..e4],
+        &value[a5..e5],
+        request,
+    )
+}
+
+// The stripes that a call goes to, one after the other. It has two callers: one alone would have it compiled into itself, and a step of one stripe would
+// pay for it.
+fn each(
+    nodes: &mut [NodeRecord],
+    clients: &mut [ClientRecord],
+    blocks: &mut [u8],
+    spare: &mut [u8],
+    differences: &mut [u8],
+    value: &[u8],
+    begun: Walk,
+) -> Answer
+    ensures { λ r. ⌜ Goes (now (nodes .entry)) (now (clients .entry)) (now (blocks .entry)) (now (spare .entry)) (now (differences .entry))
+        (now (value .entry)) begun r (now (nodes .exit)) (now (clients .exit)) (now (blocks .exit)) (now (spare .exit)) (now (differences .exit)) ⌝ }
+{
+    let mut walk = begun;
+    while walk.goes_on() {
+        if walk.picks() {
+            let answer = pick_part(nodes, clients, blocks, spare, differences, value, walk);
+            let next = walk.after(answer);
+            walk = next;
+        } else {
+            let answer = step_part(nodes, clients, blocks, spare, differences, value, walk);
+            let next = walk.after(answer);
+            walk = next;
+        }
+    }
+    walk.answer
+}
+
 // Every call but read.
 pub fn call(
     nodes: &mut [NodeRecord],
@@ -119,20 +191,15 @@ pub fn call(
     let n4 = differences.len();
     let n5 = value.len();
     let begun = request.begin(n0, n1, n2, n3, n4, n5);
-    let looked = look_nodes(nodes, begun);
-    let mut walk = look_clients(clients, looked);
-    while walk.goes_on() {
-        if walk.picks() {
-            let answer = pick_part(nodes, clients, blocks, spare, differences, value, walk);
-            let next = walk.after(answer);
-            walk = next;
-        } else {
-            let answer = step_part(nodes, clients, blocks, spare, differences, value, walk);
-            let next = walk.after(answer);
-            walk = next;
-        }
+    if begun.is_one_step() {
+        return step_one(nodes, clients, blocks, spare, differences, value, begun);
     }
-    walk.answer
+    if begun.looks() {
+        let seen = look_nodes(nodes, begun);
+        let looked = look_clients(clients, seen);
+        return each(nodes, clients, blocks, spare, differences, value, looked);
+    }
+    each(nodes, clients, blocks, spare, differences, value, begun)
 }
 
 // The block at position i of a stripe, into out.
