@@ -10,7 +10,7 @@ use records::ClientCall;
 use records::NodeCall;
 use routing::Volume;
 use routing::VolumeCall;
-use shelf::PickRequest;
+use taking::PickRequest;
 
 impl Run {
     pub(crate) fn goes_on(self) -> bool
@@ -33,12 +33,12 @@ impl Run {
         PickRequest { z: z, c: 1 }
     }
 
-    pub(crate) fn step(self) -> shelf::Request
+    pub(crate) fn step(self) -> taking::Request
         ensures { λ r. ⌜ r .z ≡ self .z ⌝ }
     {
         let z = self.z;
         let call = self.call();
-        shelf::Request { z: z, call: call }
+        taking::Request { z: z, call: call }
     }
 
     pub(crate) fn volume_pick(self) -> routing::Request

@@ -17,9 +17,9 @@ use Rattle.records.specs.Client.{clientWithin}
 use Rattle.records.specs.Node.{nodeWithin}
 use Rattle.records.specs.Sizes.{sizesWithin}
 use Rattle.records.specs.View.{clientOf, nodeOf}
-use Rattle.shelf.specs.declared.PickRequest.{PickRequest}
-use Rattle.shelf.specs.declared.ReadRequest.{ReadRequest}
-use Rattle.shelf.specs.declared.Request.{Request}
+use Rattle.taking.specs.declared.PickRequest.{PickRequest}
+use Rattle.taking.specs.declared.ReadRequest.{ReadRequest}
+use Rattle.taking.specs.declared.Request.{Request}
 use Rattle.volume.specs.Volume.{isStop}
 use Rattle.routing.specs.declared.ReadRequest as read
 use Rattle.routing.specs.declared.ReadWalk.{ReadWalk}

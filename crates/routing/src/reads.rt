@@ -85,7 +85,7 @@ impl ReadWalk {
     }
 
     // What shelf is asked, on the stripe's own tables; a read that goes to no stripe has sizes that every read is refused with.
-    pub fn read(self) -> shelf::ReadRequest
+    pub fn read(self) -> taking::ReadRequest
         ensures { λ r. ⌜ r ≡ readRequestOf self ⌝ }
     {
         let volume = self.volume;
@@ -98,9 +98,9 @@ impl ReadWalk {
                 failures: 0,
                 m: 0,
             };
-            return shelf::ReadRequest { z: none, i: 0 };
+            return taking::ReadRequest { z: none, i: 0 };
         }
-        shelf::ReadRequest { z: z, i: self.i }
+        taking::ReadRequest { z: z, i: self.i }
     }
 
     pub fn after(self, answer: Answer) -> Answer

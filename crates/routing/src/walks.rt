@@ -363,23 +363,23 @@ impl Walk {
     }
 
     // What shelf is asked, on the stripe's own tables.
-    pub fn step(self) -> shelf::Request
+    pub fn step(self) -> taking::Request
         ensures { λ r. ⌜ r ≡ stepRequestOf self ⌝ }
     {
         let volume = self.volume;
         let z = volume.z;
         let call = self.call;
         let inner = call.step_in(z.n, self.at);
-        shelf::Request { z: z, call: inner }
+        taking::Request { z: z, call: inner }
     }
 
-    pub fn pick(self) -> shelf::PickRequest
+    pub fn pick(self) -> taking::PickRequest
         ensures { λ r. ⌜ r ≡ pickRequestOf self ⌝ }
     {
         let volume = self.volume;
         let z = volume.z;
         let call = self.call;
-        shelf::PickRequest {
+        taking::PickRequest {
             z: z,
             c: call.stopping(),
         }

@@ -16,7 +16,7 @@ use Rattle.records.specs.Client.{freshClient}
 use Rattle.records.specs.Node.{freshNode}
 use Rattle.records.specs.View.{clientOf, nodeOf}
 use Rattle.calls.proofs.Numbers.{left-one}
-use Rattle.shelf.specs.Table.{clientsIn}
+use Rattle.taking.specs.Table.{clientsIn}
 use Rattle.runs.specs.Entered.{Tables, tablesOf, Enters, stepped, picked, shown, EntersOne, kept, others, Demand3Entered, KeepsDoneEntered}
 use Rattle.runs.proofs.Runs.{Stepped, refused-one, guarded, stepped-same, every-run}
 

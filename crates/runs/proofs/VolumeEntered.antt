@@ -23,8 +23,8 @@ use Rattle.records.specs.declared.Sizes.{Sizes}
 use Rattle.records.specs.Client.{freshClient}
 use Rattle.records.specs.Node.{freshNode}
 use Rattle.records.specs.View.{clientOf, nodeOf}
-use Rattle.shelf.specs.Shelf.{stripeIn}
-use Rattle.shelf.specs.Table.{clientsIn, nodesIn}
+use Rattle.taking.specs.Lent.{stripeIn}
+use Rattle.taking.specs.Table.{clientsIn, nodesIn}
 use Rattle.volume.specs.Volume.{Volume, VolumeCall, noStripe, stripeLimit, volumeStep}
 use Rattle.volume.proofs.Steps.{answer-one}
 use Rattle.volumeshelf.specs.Volumes.{Renewed, ofStripe, volumeIn}

@@ -44,8 +44,8 @@ use Rattle.calls.specs.Calls.{stepOf}
 use Rattle.calls.proofs.Left.{left-free}
 use Rattle.stripe.specs.View.{blankRecord}
 use Rattle.step.specs.View.{Stored, stored, storedOf, blankClient}
-use Rattle.shelf.specs.Shelf.{stripeIn}
-use Rattle.shelf.specs.Table.{clientsIn, nodesIn}
+use Rattle.taking.specs.Lent.{stripeIn}
+use Rattle.taking.specs.Table.{clientsIn, nodesIn}
 use Rattle.runs.specs.Runs.{Begun, Permitted, Run, begun, called}
 use Rattle.runs.specs.Played.{PlaysOne, played}
 use Rattle.runs.specs.Entered.{Tables, tablesOf, stepped, picked, EntersOne, kept}

@@ -11,10 +11,11 @@ use Rattle.records.specs.declared.Sizes.{Sizes}
 use Rattle.calls.specs.declared.Answer.{Answer}
 use Rattle.calls.specs.Answers.{answerOf}
 use Rattle.calls.specs.Calls.{stepOf}
-use Rattle.shelf.specs.declared.PickRequest.{PickRequest}
-use Rattle.shelf.specs.declared.ReadRequest.{ReadRequest}
-use Rattle.shelf.specs.declared.Request.{Request}
-use Rattle.shelf.specs.Shelf.{StepsLent, PicksLent, ReadsLent, stripeIn}
+use Rattle.shelf.specs.Shelf.{StepsLent, PicksLent, ReadsLent}
+use Rattle.taking.specs.declared.PickRequest.{PickRequest}
+use Rattle.taking.specs.declared.ReadRequest.{ReadRequest}
+use Rattle.taking.specs.declared.Request.{Request}
+use Rattle.taking.specs.Lent.{stripeIn}
 use Rattle.runs.specs.Runs.{EveryRun}
 
 -- "the n node records lent as one table", the m client records as another, and the three tables of bytes

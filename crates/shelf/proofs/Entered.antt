@@ -9,23 +9,24 @@ use Rattle.calls.specs.Calls.{caller}
 use Rattle.lent.proofs.ReadEntry as read-entry
 use Rattle.lent.proofs.StepEntry.{Implied}
 use Rattle.records.specs.View.{clientOf, nodeOf}
-use Rattle.shelf.specs.declared.Looked.{Looked}
-use Rattle.shelf.specs.declared.PickRequest.{PickRequest}
-use Rattle.shelf.specs.declared.ReadRequest.{ReadRequest}
-use Rattle.shelf.specs.declared.Request.{Request}
-use Rattle.shelf.specs.declared.Sought.{Sought}
-use Rattle.shelf.specs.declared.TakenClient.{TakenClient}
+use Rattle.taking.specs.declared.Looked.{Looked}
+use Rattle.taking.specs.declared.PickRequest.{PickRequest}
+use Rattle.taking.specs.declared.ReadRequest.{ReadRequest}
+use Rattle.taking.specs.declared.Request.{Request}
+use Rattle.taking.specs.declared.Sought.{Sought}
+use Rattle.taking.specs.declared.TakenClient.{TakenClient}
+use Rattle.taking.specs.Picks.{AllTook, PickedAll, PicksAll}
+use Rattle.taking.specs.Step.{ReadsFound, StepsFound, soughtFor}
+use Rattle.taking.specs.Table.{ClientTaken, NodeFound, NodesSeen}
+use Rattle.taking.proofs.AllTaken as all
+use Rattle.taking.proofs.Found as found
+use Rattle.taking.proofs.Lists.{map-set}
+use Rattle.taking.proofs.PickRequest as pick-request
+use Rattle.taking.proofs.ReadRequest as read-request
+use Rattle.taking.proofs.Request as request
+use Rattle.taking.proofs.Returned as returned
 use Rattle.shelf.specs.Shelf.{PicksLent, PicksOnly, ReadsLent, StepsLent}
-use Rattle.shelf.specs.Picks.{AllTook, PickedAll, PicksAll}
-use Rattle.shelf.specs.Step.{ReadsFound, StepsFound, soughtFor}
-use Rattle.shelf.specs.Table.{ClientTaken, NodeFound, NodesSeen}
-use Rattle.shelf.proofs.AllTaken as all
-use Rattle.shelf.proofs.Found as found
-use Rattle.shelf.proofs.Lists.{map-set, set-past}
-use Rattle.shelf.proofs.PickRequest as pick-request
-use Rattle.shelf.proofs.ReadRequest as read-request
-use Rattle.shelf.proofs.Request as request
-use Rattle.shelf.proofs.Returned as returned
+use Rattle.shelf.proofs.Lists.{set-past}
 use Rattle.shelf.proofs.Types.{all-rec, found-rec, pick-request-rec, read-request-rec, request-rec, answer-rec, returned-parts, seen-nodes, nodes, node-back, others-back, pick-back, pick-others, clients, clients-back}
 
 abbrev pub CalledBy : Request → ℕ → Type 0

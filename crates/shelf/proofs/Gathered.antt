@@ -23,12 +23,12 @@ use Rattle.records.proofs.NodeRecord.Laws as node-laws
 use Rattle.records.specs.declared.NodeRecord.{NodeRecord}
 use Rattle.stripe.proofs.nodes.Nodes as nodes
 use Rattle.stripe.proofs.nodes.Nodes.Laws as nodes-laws
-use Rattle.shelf.specs.declared.AllTaken.{AllTaken}
-use Rattle.shelf.specs.Picks.{allEnd, allSeen}
+use Rattle.taking.specs.declared.AllTaken.{AllTaken}
+use Rattle.taking.specs.Picks.{allEnd, allSeen}
+use Rattle.taking.proofs.AllTaken as all
+use Rattle.taking.proofs.AllTaken.Laws as all-laws
+use Rattle.taking.proofs.Lists.{map-put}
 use Rattle.shelf.proofs.All.{all-eighteen}
-use Rattle.shelf.proofs.AllTaken as all
-use Rattle.shelf.proofs.AllTaken.Laws as all-laws
-use Rattle.shelf.proofs.Lists.{map-put}
 use Rattle.shelf.proofs.Types.{node-rec, all-rec}
 
 -- a record as a field of a struct has it: the tuple of its fields

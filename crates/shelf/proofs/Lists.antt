@@ -1,8 +1,8 @@
 -- Records of a table, counted from 1. Assumes nothing.
---     set-item, map-put, map-set     one record put.        element-in, element-past, set-in, set-past      a record of the table, and one past it
+--     set-item     one record put.        element-in, element-past, set-in, set-past      a record of the table, and one past it
 use mathlib.Core.Bool.{cond}
 use mathlib.Core.List.{List, [], _∷_, map}
-use mathlib.Core.Path.{_≡_, refl, sym, ap, _∙_}
+use mathlib.Core.Path.{_≡_, refl, sym, _∙_}
 use Prim.Native.Nat.{ℕ, zero, suc, _+_, _-_, _<_, _≤_}
 use native.Mathlib.Decide.{ℕ-discrete}
 use native.Mathlib.Omega.{arith}
@@ -44,16 +44,6 @@ module _ {A : Type 0} where
   set-in l (suc j) d h = let e : suc j - 1 ≡ j = omega arith in rw e (set-getD l j d)
 
 module _ {A B : Type 0} (f : A → B) where
-  pub map-put : (l : List A) (i : ℕ) (x : A) → map f (set l i x) ≡ set (map f l) i (f x)
-  map-put [] i x = refl
-  map-put (y ∷ l) zero x = refl
-  map-put (y ∷ l) (suc i) x = ap (λ r. f y ∷ r) (map-put l i x)
-
-  pub map-set : (l : List A) (j : ℕ) (x : A) → map f (setAt l j x) ≡ setAt (map f l) j (f x)
-  unfolding setAt
-  map-set l zero x = refl
-  map-set l (suc j) x = map-put l j x
-
   pub element-in : (l : List A) (j : ℕ) (d : A) (e : B) → 1 ≤ j → j ≤ length l → f (getD l (j - 1) d) ≡ elementAt e (map f l) j
   unfolding elementAt
   element-in l zero d e h b = absurd (omega arith)

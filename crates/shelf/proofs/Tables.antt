@@ -28,13 +28,14 @@ use Rattle.stripe.specs.Seen.{Sees, changedAt, endOf, firstOf}
 use Rattle.stripe.specs.View.{blankRecord}
 use Rattle.stripe.proofs.Applied.{applied-is}
 use Rattle.stripe.proofs.Seeing.{seenOf, seen-last, seen-none, sees-all}
-use Rattle.shelf.specs.declared.Found.{Found}
-use Rattle.shelf.specs.declared.Looked.{Looked}
-use Rattle.shelf.specs.declared.Others.{Others}
-use Rattle.shelf.specs.declared.Sought.{Sought}
-use Rattle.shelf.specs.declared.TakenClient.{TakenClient}
-use Rattle.shelf.specs.Ranges.{placeOf, endAt, clientBegun, clientSeen, lookedBegun, lookedSeen, endLooked, foundBegun, foundSeen}
-use Rattle.shelf.specs.Table.{ClientTaken, NodeFound, NodesSeen, PutOthers, nodesIn}
+use Rattle.taking.specs.declared.Found.{Found}
+use Rattle.taking.specs.declared.Looked.{Looked}
+use Rattle.taking.specs.declared.Others.{Others}
+use Rattle.taking.specs.declared.Sought.{Sought}
+use Rattle.taking.specs.declared.TakenClient.{TakenClient}
+use Rattle.taking.specs.Ranges.{placeOf, endAt, clientBegun, clientSeen, lookedBegun, lookedSeen, endLooked, foundBegun, foundSeen}
+use Rattle.taking.specs.Table.{ClientTaken, NodeFound, NodesSeen, nodesIn}
+use Rattle.shelf.specs.Table.{PutOthers}
 use Rattle.shelf.proofs.Lists.{getD-any, set-item, element-in, element-past, set-in, set-past}
 
 -- ---- where the loops begin and end

@@ -13,30 +13,31 @@ use Rattle.records.proofs.ClientRecord as client
 use Rattle.records.proofs.ClientRecord.Laws as client-laws
 use Rattle.records.proofs.NodeRecord as node
 use Rattle.records.proofs.NodeRecord.Laws as node-laws
-use Rattle.shelf.specs.Picks.{AllTook}
-use Rattle.shelf.specs.Table.{ClientTaken, NodeFound, NodesSeen, PutBack, PutClient, PutOthers}
-use Rattle.shelf.proofs.AllTaken as all
-use Rattle.shelf.proofs.AllTaken.Laws as all-laws
-use Rattle.shelf.proofs.Back as back
-use Rattle.shelf.proofs.Back.Laws as back-laws
-use Rattle.shelf.proofs.Found as found
-use Rattle.shelf.proofs.Found.Laws as found-laws
-use Rattle.shelf.proofs.Looked as looked
-use Rattle.shelf.proofs.Looked.Laws as looked-laws
-use Rattle.shelf.proofs.Others as others
-use Rattle.shelf.proofs.Others.Laws as others-laws
-use Rattle.shelf.proofs.PickRequest as pick-request
-use Rattle.shelf.proofs.PickRequest.Laws as pick-request-laws
-use Rattle.shelf.proofs.ReadRequest as read-request
-use Rattle.shelf.proofs.ReadRequest.Laws as read-request-laws
-use Rattle.shelf.proofs.Request as request
-use Rattle.shelf.proofs.Request.Laws as request-laws
-use Rattle.shelf.proofs.Sought as sought
-use Rattle.shelf.proofs.Sought.Laws as sought-laws
-use Rattle.shelf.proofs.Returned as returned
-use Rattle.shelf.proofs.Returned.Laws as returned-laws
-use Rattle.shelf.proofs.TakenClient as taken
-use Rattle.shelf.proofs.TakenClient.Laws as taken-laws
+use Rattle.taking.specs.Picks.{AllTook}
+use Rattle.taking.specs.Table.{ClientTaken, NodeFound, NodesSeen}
+use Rattle.taking.proofs.AllTaken as all
+use Rattle.taking.proofs.AllTaken.Laws as all-laws
+use Rattle.taking.proofs.Back as back
+use Rattle.taking.proofs.Back.Laws as back-laws
+use Rattle.taking.proofs.Found as found
+use Rattle.taking.proofs.Found.Laws as found-laws
+use Rattle.taking.proofs.Looked as looked
+use Rattle.taking.proofs.Looked.Laws as looked-laws
+use Rattle.taking.proofs.Others as others
+use Rattle.taking.proofs.Others.Laws as others-laws
+use Rattle.taking.proofs.PickRequest as pick-request
+use Rattle.taking.proofs.PickRequest.Laws as pick-request-laws
+use Rattle.taking.proofs.ReadRequest as read-request
+use Rattle.taking.proofs.ReadRequest.Laws as read-request-laws
+use Rattle.taking.proofs.Request as request
+use Rattle.taking.proofs.Request.Laws as request-laws
+use Rattle.taking.proofs.Sought as sought
+use Rattle.taking.proofs.Sought.Laws as sought-laws
+use Rattle.taking.proofs.Returned as returned
+use Rattle.taking.proofs.Returned.Laws as returned-laws
+use Rattle.taking.proofs.TakenClient as taken
+use Rattle.taking.proofs.TakenClient.Laws as taken-laws
+use Rattle.shelf.specs.Table.{PutBack, PutClient, PutOthers}
 
 abbrev pub node-rec : Rec node.the-row
 node-rec = rec-struct node.the-type node-laws.the-laws node-laws.the-copy node-laws.the-plain (λ _. tt) (λ _ _. refl)

@@ -1,34 +1,21 @@
 -- What the contract of an entry point says: the machine's call on what is lent gives the answer and what is left. What is primed is as
 -- the call leaves it. Assumes nothing.
-use mathlib.Core.Bool.{not, _&&_}
 use mathlib.Core.List.{List, []}
 use mathlib.Core.Path.{_≡_}
 use Prim.Native.Nat.{ℕ}
-use lib.Dec.{eqb}
-use lib.ListN.{length}
 use Rattle.calls.specs.declared.Answer.{Answer}
 use Rattle.calls.specs.Answers.{Meets}
 use Rattle.calls.specs.Calls.{stepOf}
-use Rattle.machine.specs.Calls.{Call, Pick, Read, step}
-use Rattle.machine.specs.Stripe.{Outcome, Stripe, guard}
+use Rattle.machine.specs.Calls.{Pick}
 use Rattle.records.specs.declared.ClientRecord.{ClientRecord}
 use Rattle.records.specs.declared.NodeRecord.{NodeRecord}
-use Rattle.records.specs.declared.Refusal.the-variants.{OutOfLimits}
-use Rattle.records.specs.declared.Sizes.{Sizes}
 use Rattle.records.specs.Client.{Client}
 use Rattle.step.specs.Steps.{stripeWith}
-use Rattle.shelf.specs.declared.PickRequest.{PickRequest}
-use Rattle.shelf.specs.declared.ReadRequest.{ReadRequest}
-use Rattle.shelf.specs.declared.Request.{Request}
-use Rattle.shelf.specs.Table.{clientsIn, nodesIn}
-
--- the five tables that are lent, as a stripe
-abbrev pub stripeIn : List NodeRecord → List ClientRecord → List ℕ → List ℕ → List ℕ → Stripe
-stripeIn nodes clients blocks spare differences = stripeWith (nodesIn nodes) (clientsIn clients) blocks spare differences
-
--- "1: .. buffer length outside the limits": the tables of n node records and of m client records are such buffers
-abbrev pub onTables : Sizes → Call → Stripe → Outcome Stripe
-onTables z call s = guard (not (eqb (length (s .nodes)) (z .n) && eqb (length (s .clients)) (z .m))) OutOfLimits s (step z call s)
+use Rattle.taking.specs.declared.PickRequest.{PickRequest}
+use Rattle.taking.specs.declared.ReadRequest.{ReadRequest}
+use Rattle.taking.specs.declared.Request.{Request}
+use Rattle.taking.specs.Lent.{onTables, reading, stripeIn}
+use Rattle.taking.specs.Table.{nodesIn}
 
 -- where a refusal leaves all unchanged, it hands back the very tables
 abbrev pub StepsLent : List NodeRecord → List ClientRecord → List ℕ → List ℕ → List ℕ → List ℕ → Request → Answer
@@ -38,10 +25,7 @@ StepsLent nodes clients blocks spare differences value q answer nodes′ clients
     answer [] (stripeIn nodes′ clients′ blocks′ spare′ differences′)
     ((nodes′ ≡ nodes) × ((clients′ ≡ clients) × ((blocks′ ≡ blocks) × ((spare′ ≡ spare) × (differences′ ≡ differences)))))
 
--- a read shows its block in a buffer of B bytes, and is lent neither the clients nor the other tables
-abbrev pub reading : Sizes → ℕ → List ℕ → Stripe → Outcome Stripe
-reading z i out s = guard (not (eqb (length (s .nodes)) (z .n) && eqb (length out) (z .b))) OutOfLimits s (step z (Read i) s)
-
+-- a read is lent neither the clients nor the other tables
 abbrev pub ReadsLent : List NodeRecord → List ℕ → List ℕ → ReadRequest → Answer → List ℕ → Type 0
 ReadsLent nodes out blocks q answer out′ =
     (clients : List Client) (spare differences : List ℕ)

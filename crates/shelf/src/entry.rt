@@ -1,8 +1,5 @@
 // The entry points. Each is walked by a law.
 ghost use Rattle.shelf.specs.Shelf.{PicksOnly, StepsLent, ReadsLent};
-use crate::PickRequest;
-use crate::ReadRequest;
-use crate::Request;
 use crate::table::look;
 use crate::table::put_back;
 use crate::table::put_client;
@@ -13,6 +10,9 @@ use crate::table::take_node;
 use calls::Answer;
 use records::ClientRecord;
 use records::NodeRecord;
+use taking::PickRequest;
+use taking::ReadRequest;
+use taking::Request;
 
 // Every call but read and pick.
 pub fn step(

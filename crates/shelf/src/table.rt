@@ -1,15 +1,16 @@
 // A table is looked at, and changed. Each of these is walked by a law.
-ghost use Rattle.shelf.specs.Picks.{AllTook};
-ghost use Rattle.shelf.specs.Table.{ClientTaken, NodesSeen, NodeFound, PutBack, PutOthers, PutClient};
-use crate::AllTaken;
-use crate::Back;
-use crate::Found;
-use crate::Looked;
-use crate::Others;
-use crate::Sought;
-use crate::TakenClient;
+ghost use Rattle.taking.specs.Picks.{AllTook};
+ghost use Rattle.taking.specs.Table.{ClientTaken, NodesSeen, NodeFound};
+ghost use Rattle.shelf.specs.Table.{PutBack, PutOthers, PutClient};
 use records::ClientRecord;
 use records::NodeRecord;
+use taking::AllTaken;
+use taking::Back;
+use taking::Found;
+use taking::Looked;
+use taking::Others;
+use taking::Sought;
+use taking::TakenClient;
 
 pub(crate) fn take_client(clients: &[ClientRecord], c: u8) -> TakenClient
     ensures { λ r. ⌜ ClientTaken (now (clients .entry)) c r ⌝ }

@@ -26,10 +26,11 @@ use Rattle.records.specs.declared.Refusal.the-variants.{OutOfLimits, OutOfRange
 use Rattle.records.specs.declared.Sizes.{Sizes}
 use Rattle.records.specs.Sizes.{sizesWithin}
 use Rattle.records.specs.View.{nodeOf}
-use Rattle.shelf.specs.declared.ReadRequest.{ReadRequest}
-use Rattle.shelf.specs.Shelf.{ReadsLent, stripeIn}
-use Rattle.shelf.specs.Shelf as shelf
-use Rattle.shelf.specs.Table.{clientsIn, nodesIn}
+use Rattle.shelf.specs.Shelf.{ReadsLent}
+use Rattle.taking.specs.declared.ReadRequest.{ReadRequest}
+use Rattle.taking.specs.Lent.{stripeIn}
+use Rattle.taking.specs.Lent as taking
+use Rattle.taking.specs.Table.{clientsIn, nodesIn}
 use Rattle.step.specs.Steps.{stripeWith}
 use Rattle.volume.specs.Volume as Machine
 use Rattle.volume.specs.Volume.{on, onOne, putStripe, stripeAt, volumeStep}
@@ -125,7 +126,7 @@ none-read nodes out blocks r out′ went =
     s : Stripe
     s = stripeWith (nodesIn nodes) [] blocks [] []
 
-    m : Meets (shelf.reading noSizes 0 out s) r out′ s (out′ ≡ out)
+    m : Meets (taking.reading noSizes 0 out s) r out′ s (out′ ≡ out)
     m = went [] [] []
 
     outside : (t : Bool) → guard t OutOfLimits s (step noSizes (Read 0) s) ≡ refused OutOfLimits s
@@ -175,14 +176,14 @@ module _ (q : request.ReadRequest) (nodes : List NodeRecord) (out blocks : List 
     its-is : stripeAt all s ≡ its
     its-is = stripe-at v (lent q out nodes clients blocks spare differences) s h
 
-    own : Meets (shelf.reading z (q .i) out its) r out′ its (out′ ≡ out)
+    own : Meets (taking.reading z (q .i) out its) r out′ its (out′ ≡ out)
     own =
         let on-nodes = subst (λ a. ReadsLent a out (partIn (partOf s (tableBlocks z) (length blocks)) blocks) (record { z = z; i = q .i }) r out′) nodes-part
         went in
         subst (λ b. ReadsLent (ofStripe s (z .n) nodes) out b (record { z = z; i = q .i }) r out′) blocks-part on-nodes
         (clientsIn (ofStripe s (z .m) clients)) (ofStripe s (z .n * z .b) spare) (ofStripe s (z .m * z .b) differences)
 
-    steps-own : shelf.reading z (q .i) out its ≡ step z (Read (q .i)) its
+    steps-own : taking.reading z (q .i) out its ≡ step z (Read (q .i)) its
     unfolding guard
     steps-own = rw (
       eq-eqb _ _ (length-map (ofStripe s (z .n) nodes) nodeOf ∙ stripe-length s (z .n) (v .stripes) nodes h (fit .nodes-len)),

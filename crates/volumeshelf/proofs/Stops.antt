@@ -30,7 +30,7 @@ use Rattle.records.specs.Client.{clientWithin, freshClient, stopped}
 use Rattle.records.specs.Node.{Node, expiredFor, nodeWithin}
 use Rattle.records.specs.Sizes.{isClient, isNode, sizesWithin}
 use Rattle.records.specs.View.{clientOf, nodeOf}
-use Rattle.shelf.specs.Table.{clientsIn, nodesIn}
+use Rattle.taking.specs.Table.{clientsIn, nodesIn}
 use Rattle.shelf.proofs.Lists.{getD-any}
 use Rattle.step.specs.View.{blankClient}
 use Rattle.stripe.specs.View.{blankRecord}

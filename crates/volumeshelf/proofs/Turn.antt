@@ -26,8 +26,9 @@ use Rattle.parts.specs.Turns as turns
 use Rattle.parts.specs.Turns.{Tables}
 use Rattle.records.specs.declared.ClientRecord.{ClientRecord}
 use Rattle.records.specs.declared.NodeRecord.{NodeRecord}
-use Rattle.shelf.specs.Shelf.{PicksOnly, StepsLent, onTables, stripeIn}
-use Rattle.shelf.specs.Table.{clientsIn, nodesIn}
+use Rattle.shelf.specs.Shelf.{PicksOnly, StepsLent}
+use Rattle.taking.specs.Lent.{onTables, stripeIn}
+use Rattle.taking.specs.Table.{clientsIn, nodesIn}
 use Rattle.layout.specs.Layout.{nodeFor}
 use Rattle.records.specs.View.{clientOf, nodeOf}
 use Rattle.volume.specs.Volume.{callIn, givenFits, noStripe, stripeAt}

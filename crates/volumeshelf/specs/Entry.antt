@@ -13,7 +13,7 @@ use Rattle.records.specs.Client.{clientWithin, freshClient}
 use Rattle.records.specs.Node.{freshNode, nodeWithin}
 use Rattle.records.specs.View.{clientOf, nodeOf}
 use Rattle.shelf.specs.Shelf.{PicksOnly, StepsLent}
-use Rattle.shelf.specs.Table.{clientsIn, nodesIn}
+use Rattle.taking.specs.Table.{clientsIn, nodesIn}
 use Rattle.step.specs.View.{blankClient}
 use Rattle.stripe.specs.View.{blankRecord}
 use Rattle.routing.specs.declared.Renewal.{Renewal}

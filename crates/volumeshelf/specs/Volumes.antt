@@ -18,8 +18,8 @@ use Rattle.records.specs.declared.NodeRecord.{NodeRecord}
 use Rattle.records.specs.declared.Refusal.the-variants.{OutOfLimits}
 use Rattle.records.specs.Client.{freshClient}
 use Rattle.records.specs.Node.{freshNode}
-use Rattle.shelf.specs.Shelf.{stripeIn}
-use Rattle.shelf.specs.Table.{clientsIn, nodesIn}
+use Rattle.taking.specs.Lent.{stripeIn}
+use Rattle.taking.specs.Table.{clientsIn, nodesIn}
 use Rattle.volume.specs.Volume as Machine
 use Rattle.volume.specs.Volume.{on, volumeStep}
 use Rattle.routing.specs.declared.ReadRequest.{ReadRequest}

@@ -12,8 +12,8 @@ use Rattle.shelf.proofs.pick.Met as picked-thm
 use Rattle.shelf.proofs.pick.Symbol as picked
 use Rattle.shelf.proofs.step.Met as stepped-thm
 use Rattle.shelf.proofs.step.Symbol as stepped
-use Rattle.shelf.proofs.PickRequest as pick-request
-use Rattle.shelf.proofs.Request as request
+use Rattle.taking.proofs.PickRequest as pick-request
+use Rattle.taking.proofs.Request as request
 use Rattle.shelf.proofs.Types.{request-rec, pick-request-rec, answer-rec}
 use Rattle.shelf.specs.Shelf.{PicksOnly, StepsLent}
 use Rattle.callbench.proofs.Run as now

@@ -7,18 +7,18 @@ use denote.Builtin.{usize}
 use Rattle.lent.proofs.Changing.{meets}
 use Rattle.lent.proofs.Side.{Ask, Ask2, Ask3}
 use Rattle.records.proofs.ClientRecord as client
-use Rattle.shelf.specs.Ranges.{placeOf, endAt}
 use Rattle.step.specs.View.{blankClient}
+use Rattle.taking.specs.Ranges.{placeOf, endAt}
+use Rattle.taking.proofs.TakenClient as taken
+use Rattle.taking.proofs.TakenClient.first.Met as first-thm
+use Rattle.taking.proofs.TakenClient.first.Symbol as first-def
+use Rattle.taking.proofs.TakenClient.end_in.Met as end-thm
+use Rattle.taking.proofs.TakenClient.end_in.Symbol as end-def
+use Rattle.taking.proofs.TakenClient.at.Met as at-thm
+use Rattle.taking.proofs.TakenClient.at.Symbol as at-def
 use Rattle.shelf.specs.Table.{PutClient}
-use Rattle.shelf.proofs.TakenClient as taken
 use Rattle.shelf.proofs.Tables.{ends-in, one-left}
 use Rattle.shelf.proofs.Types.{client-rec, taken-rec}
-use Rattle.shelf.proofs.TakenClient.first.Met as first-thm
-use Rattle.shelf.proofs.TakenClient.first.Symbol as first-def
-use Rattle.shelf.proofs.TakenClient.end_in.Met as end-thm
-use Rattle.shelf.proofs.TakenClient.end_in.Symbol as end-def
-use Rattle.shelf.proofs.TakenClient.at.Met as at-thm
-use Rattle.shelf.proofs.TakenClient.at.Symbol as at-def
 use Rattle.shelf.proofs.table.put_client as this
 use Rattle.shelf.proofs.table.put_client.Code as code
 use Rattle.shelf.proofs.table.put_client.Key as key
@@ -32,6 +32,6 @@ put-client-spec 𝓤 H 𝓜 𝓖 𝓡 =
     (meets client.the-row taken.the-row client-rec taken-rec first-def.name end-def.name at-def.name
     (λ t. placeOf (t .c)) (λ t n. endAt (t .c) n) (λ t i old r. r ≡ t .client) PutClient blankClient tt (λ t n. ends-in (t .c) n) (λ ys t zs c. one-left blankClient (t .c) (t .client) ys zs c)
     𝓤 H (𝓖 .A) (givenOf 𝓤 H 𝓜 𝓖) (tablesOf 𝓤 H 𝓜 (tables 𝓤 H 𝓜 𝓡 code.env))
-    (cited 𝓤 H (Ask taken.the-row usize (λ t r. r ≡ placeOf (t .c)) 𝓤 H (𝓖 .A)) 𝓜 𝓡 code.env first-def.name first-def.routine code.calls-shelf·TakenClient·first (first-thm.met 𝓤 H 𝓜 𝓖 𝓡))
-    (cited 𝓤 H (Ask2 taken.the-row usize usize (λ t n r. r ≡ endAt (t .c) n) 𝓤 H (𝓖 .A)) 𝓜 𝓡 code.env end-def.name end-def.routine code.calls-shelf·TakenClient·end-in (end-thm.met 𝓤 H 𝓜 𝓖 𝓡))
-    (cited 𝓤 H (Ask3 taken.the-row usize client.the-row client.the-row (λ t i old r. r ≡ t .client) 𝓤 H (𝓖 .A)) 𝓜 𝓡 code.env at-def.name at-def.routine code.calls-shelf·TakenClient·at (at-thm.met 𝓤 H 𝓜 𝓖 𝓡)))
+    (cited 𝓤 H (Ask taken.the-row usize (λ t r. r ≡ placeOf (t .c)) 𝓤 H (𝓖 .A)) 𝓜 𝓡 code.env first-def.name first-def.routine code.calls-taking·TakenClient·first (first-thm.met 𝓤 H 𝓜 𝓖 𝓡))
+    (cited 𝓤 H (Ask2 taken.the-row usize usize (λ t n r. r ≡ endAt (t .c) n) 𝓤 H (𝓖 .A)) 𝓜 𝓡 code.env end-def.name end-def.routine code.calls-taking·TakenClient·end-in (end-thm.met 𝓤 H 𝓜 𝓖 𝓡))
+    (cited 𝓤 H (Ask3 taken.the-row usize client.the-row client.the-row (λ t i old r. r ≡ t .client) 𝓤 H (𝓖 .A)) 𝓜 𝓡 code.env at-def.name at-def.routine code.calls-taking·TakenClient·at (at-thm.met 𝓤 H 𝓜 𝓖 𝓡)))

@@ -10,7 +10,7 @@ use Rattle.parts.proofs.Parts.{meets}
 use Rattle.parts.proofs.Sliced.{From, To}
 use Rattle.records.proofs.ClientRecord as client
 use Rattle.records.proofs.NodeRecord as node
-use Rattle.shelf.proofs.PickRequest as request
+use Rattle.taking.proofs.PickRequest as request
 use Rattle.shelf.proofs.Types.{node-rec, client-rec, pick-request-rec, answer-rec}
 use Rattle.shelf.proofs.pick.Met as pick-thm
 use Rattle.shelf.proofs.pick.Symbol as pick-def

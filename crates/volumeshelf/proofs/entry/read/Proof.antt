@@ -10,7 +10,7 @@ use Rattle.parts.proofs.Asks.{Ask4}
 use Rattle.parts.proofs.ReadPart.{Go, meets}
 use Rattle.parts.proofs.Sliced.{From, To}
 use Rattle.records.proofs.NodeRecord as node
-use Rattle.shelf.proofs.ReadRequest as asked
+use Rattle.taking.proofs.ReadRequest as asked
 use Rattle.shelf.proofs.Types.{answer-rec, node-rec}
 use Rattle.shelf.proofs.Types as shelf-types
 use Rattle.shelf.specs.Shelf.{ReadsLent}

@@ -1,0 +1,11 @@
+-- `taking::Looked::see` meets its contract. Assumes nothing.
+use mathlib.Core.Path.{refl}
+use borrow.Author.Needs.{needs}
+use Rattle.taking.proofs.Looked.see.Statement.{statement}
+use Rattle.taking.proofs.Looked.see.Tie as tie
+
+pub see-spec : {M : Type 1} → statement M
+see-spec =
+    tie.close
+    (tie.spec (λ c κs. search needs) (λ c κs. search needs) (λ c κs. search needs)
+    (λ c. rw (← c .before .before .before .before .before .is-within .ensures, ← c .before .before .before .held-by .ensures, ← c .before .is-recons .ensures) refl))

@@ -1,0 +1,5 @@
+pub mod Lent
+pub mod Picks
+pub mod Ranges
+pub mod Step
+pub mod Table
