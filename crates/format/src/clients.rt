@@ -2,14 +2,14 @@
 use super::lists::put_id;
 use super::lists::put_ids;
 use super::lists::put_set;
-use super::output::put;
-use super::output::put_number;
-use super::output::put_number_and;
-use super::output::put_text;
 use entries::Previous;
 use records::ClientRecord;
 use records::Hand;
 use records::Write;
+use streams::output::put;
+use streams::output::put_number;
+use streams::output::put_number_and;
+use streams::output::put_text;
 
 fn put_previous(out: &mut [u8], at: usize, previous: Previous) -> usize {
     match previous {

@@ -1,14 +1,14 @@
 // Sets of nodes, write ids and entries as texts. An empty set or list is `-`.
 ghost use Prim.Native.Nat.{_≤_};
-use super::output::put;
-use super::output::put_between;
-use super::output::put_number;
-use super::output::put_number_and;
 use code::NodeSet;
 use entries::Entries;
 use entries::Entry;
 use entries::Ids;
 use entries::WriteId;
+use streams::output::put;
+use streams::output::put_between;
+use streams::output::put_number;
+use streams::output::put_number_and;
 
 fn least(a: usize, b: usize) -> usize
     ensures { λ r. ⌜ r ≤ b ⌝ }

@@ -3,15 +3,15 @@ ghost use Prim.Native.Nat.{_+_, _-_, _*_, _≤_};
 ghost use lib.ListN.{length};
 use super::lists::put_entries;
 use super::lists::put_set;
-use super::output::put;
-use super::output::put_bytes;
-use super::output::put_number;
-use super::output::put_number_and;
-use super::output::put_text;
 use records::Holder;
 use records::Lmode;
 use records::NodeRecord;
 use records::Opmode;
+use streams::output::put;
+use streams::output::put_bytes;
+use streams::output::put_number;
+use streams::output::put_number_and;
+use streams::output::put_text;
 
 pub fn put_opmode(out: &mut [u8], at: usize, opmode: Opmode) -> usize {
     match opmode {

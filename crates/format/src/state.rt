@@ -6,12 +6,12 @@ ghost use Rattle.format.specs.Tables.{Tables};
 ghost use Rattle.records.specs.Sizes.{clientLimit, nodeLimit};
 use super::clients::put_client;
 use super::nodes::put_node;
-use super::output::put;
-use super::output::put_between;
-use super::output::put_bytes;
-use super::output::put_text;
 use records::Sizes;
 use step::Clients;
+use streams::output::put;
+use streams::output::put_between;
+use streams::output::put_bytes;
+use streams::output::put_text;
 use stripe::Nodes;
 
 // The nodes one space apart.

@@ -40,7 +40,7 @@ use mir.Syntax.{Name, Place as Place′, Opd as Operand, Ty, Mutability, Lifetim
 use mir.Syntax.{deref, field, place, copy, int, intBig, addrOf, aggregate, rvOpd, local, valueLocal, memorySlot, seq, assign, call, return, block, loop, exit, cond, skip as skipᴹ}
 use mir.Val.{Val, vbool, vint, Fits}
 use base.Logic.{SProp, ent, emp, via, fst∗, guardI}
-use base.Fml.{GName, Fml, ftrue, fsep, fat, froom, fdies, flft, flent}
+use base.Fml.{GName, Fml, ftrue, fsep, fat, froom, fdies, flent}
 use prog.Wp.{Heap, Env, Calls, Loops, Wp, WpFn, Tables, afterSeq, afterBlock, afterTurn, atReturn}
 use ghost.Atoms.{Atoms, sem}
 use contract.Monad.{fact}
@@ -63,7 +63,7 @@ use denote.Builtin.{u8, bool}
 use denote.Plain.{bool-lawful}
 use denote.Index.{row, whole-in, whole-out}
 use denote.Lend.{Held, lends-slice, slice-back}
-use denote.Slice.{sliceTy, sliceVal, MutSlice, ShrSlice, Room, finally, slice-vals, mut-slice-tells, shr-slice-tells}
+use denote.Slice.{sliceTy, sliceVal, MutSlice, ShrSlice, Room, slice-vals, mut-slice-tells, shr-slice-tells}
 use denote.Steps.{only, owned, nothing}
 use denote.Triple.Entry.{onEntry}
 use denote.Triple.Spec.{Meets, tripleOf}

@@ -6,7 +6,7 @@ use mathlib.Core.Path.{_≡_, refl, sym, ap, _∙_, subst}
 use Prim.Native.Nat.{ℕ, _≤_}
 use native.Mathlib.Omega.{arith}
 use lib.Dec.{leb}
-use lib.ListN.{length, getD, set, length-map}
+use lib.ListN.{getD, set, length-map}
 use borrow.Author.Tests.{leb-true}
 use mir.Syntax.{field, w64}
 use mir.Val.{Val, vint, vunit, vstruct, vcons, vnil}

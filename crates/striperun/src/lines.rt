@@ -3,19 +3,19 @@ ghost use mathlib.Core.Path.{_≡_};
 ghost use Prim.Native.Nat.{_*_, _≤_};
 ghost use Rattle.format.specs.Tables.{Within, Tables};
 ghost use Rattle.records.specs.Sizes.{nodeLimit, blockLimit};
+use super::next_line::Taken;
+use super::next_line::take_line;
 use super::show::put_played;
-use super::taking::Taken;
-use super::taking::take_line;
 use calls::Answer;
 use code::Limits;
-use format::input::Input;
-use format::input::TURNS;
-use format::output::flush;
 use records::Refusal;
 use records::Sizes;
 use script::reader::Line;
 use step::Played;
 use step::Stripe;
+use streams::input::Input;
+use streams::input::TURNS;
+use streams::output::flush;
 
 // The records, and the place in the output, after a line.
 struct State {

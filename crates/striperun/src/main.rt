@@ -1,10 +1,10 @@
 // Plays a script on a stripe of any size, and prints everything after each call.
 mod lines; // lines.rt: the lines of a script, one after the other
 mod show; // show.rt: what is printed of a call
-mod taking; // taking.rt: the next line of standard input
+mod next_line; // next_line.rt: the next line of standard input
 
-use format::input::Input;
-use format::input::refuse_lines;
+use streams::input::Input;
+use streams::input::refuse_lines;
 
 fn main() {
     let mut buffer = io::large_buffer();

@@ -1,12 +1,12 @@
 // What is printed of a call: `ANSWER RETURNED | STATE`.
 ghost use Rattle.format.specs.Tables.{Tables};
+use answers::put_answer;
 use calls::Call;
-use format::output::put_text;
-use format::returned::put_answer;
 use format::state::put_state;
 use records::Sizes;
 use script::reader::Line;
 use step::Played;
+use streams::output::put_text;
 
 // The client that picks, 0 if the line is no pick.
 fn picker(line: Line) -> u8 {

@@ -1,5 +1,1 @@
-pub mod Asking
-pub mod Lines
 pub mod Memory
-pub mod Reading
-pub mod Stripes

@@ -1,6 +1,6 @@
 -- What the program has memory for, of all stripes together. Assumes nothing.
 use mathlib.Core.Bool.{Bool, _&&_}
-use Prim.Native.Nat.{ℕ, _≤_}
+use Prim.Native.Nat.{_≤_}
 use lib.Dec.{leb}
 use Rattle.records.specs.Sizes.{blockLimit}
 use Rattle.routing.specs.declared.Lengths.{Lengths}

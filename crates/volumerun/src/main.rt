@@ -1,33 +1,21 @@
-// Plays a script on a volume of many stripes.
-//
-// The records of all nodes and clients are local arrays of one function, which plays the lines (entry.rt): the toolchain walks no function over a slice of
-// structs by itself, so this function and those that it lends the records to do nothing else, and each is walked by a law. All the rest is by value.
-mod asking; // asking.rt: what a line asks of the volume, and of which part of the tables
-mod entry; // entry.rt: the lines of a script, one after the other, on the volume's tables
-mod reader; // reader.rt: a line, byte by byte
-mod show; // show.rt: what is printed of a line
-mod stripes; // stripes.rt: the records of one stripe, by value
-mod table; // table.rt: the loops that take them out of the tables
-mod taking; // taking.rt: the next line of standard input
-
+// Plays a script on a volume of many stripes, in fixed memory.
 ghost use mathlib.Core.Path.{_≡_};
 ghost use Rattle.volumerun.specs.Memory.{Fits, fitsIn};
-use format::input::Input;
-use format::input::TURNS;
-use format::input::refuse_lines;
-use format::output::flush;
-use format::output::put_text;
-use reader::VolumeLine;
 use records::ClientRecord;
 use records::NodeRecord;
 use routing::Volume;
+use streams::input::Input;
+use streams::input::TURNS;
+use streams::input::refuse_lines;
+use streams::output::flush;
+use streams::output::put_text;
+use volumeplay::CLIENTS;
+use volumeplay::NODES;
+use volumeplay::Player;
+use volumeplay::entry;
 
-// What there is memory for, of all stripes together: node records, client records, bytes of blocks, and of spare as many, bytes of differences, bytes of
-// a value; and of a block that is shown.
-const NODES: usize = 18 * 1024;
-
-const CLIENTS: usize = 8 * 1024;
-
+// What there is memory for beside the records, of all stripes together: bytes of blocks, and of spare as many, bytes of differences, bytes of a value; and
+// of a block that is shown.
 const BLOCKS: usize = 131_072;
 
 const DIFFERENCES: usize = 262_144;
@@ -35,21 +23,6 @@ const DIFFERENCES: usize = 262_144;
 const VALUE: usize = 32_768;
 
 const SHOWN: usize = 4096;
-
-// A script that is played: how many turns are left, which no run uses up; the volume; the input, and the place in the output.
-pub struct Player {
-    pub left: u64,
-    pub volume: Volume,
-    pub input: Input,
-    pub at: usize,
-}
-
-// A turn: the next line, or the end of the input.
-pub struct Turn {
-    pub player: Player,
-    pub line: VolumeLine,
-    pub is_end: bool,
-}
 
 fn fits(volume: Volume) -> bool
     ensures { λ r. ⌜ r ≡ fitsIn volume ⌝ }

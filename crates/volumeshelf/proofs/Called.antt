@@ -50,7 +50,7 @@ use Rattle.routing.specs.declared.Walk.{Walk}
 use Rattle.volumeshelf.specs.Entry.{ClientsLooked, NodesLooked}
 use Rattle.routing.specs.Parts.{volumeWithin}
 use Rattle.volumeshelf.specs.Volumes.{CallsVolume, callOf, calling, volumeIn}
-use Rattle.routing.specs.Walks.{Looks, afterOf, begunOf, clientEnd, goesOn, isFailureCall, isOfEachCall, isPlaceOf, isStopCall, looksOf, nodeEnd, picksOf, stoppingOf, walkFits, walkTo}
+use Rattle.routing.specs.Walks.{Looks, afterOf, begunOf, clientEnd, goesOn, isFailureCall, isOfEachCall, isPlaceOf, isStopCall, looksOf, nodeEnd, stoppingOf, walkFits, walkTo}
 use Rattle.volumeshelf.proofs.Fits.{Fits, fits-false, fits-past, fits-true}
 use Rattle.volumeshelf.proofs.Ranges.{fits-in}
 use Rattle.volumeshelf.proofs.Stops.{clients-in, clients-out, clients-some, fail-passes, in-stripe, nodes-in, nodes-out, one-of, outside, outside-client, stop-passes, stop-refused}

@@ -3,9 +3,9 @@ use mathlib.Core.Bool.{Bool, true, false, cond, _&&_, not}
 use mathlib.Core.List.{List}
 use mathlib.Core.Logic.{_⊎_, inl, inr}
 use mathlib.Core.Path.{_≡_, refl, sym, ap, subst, _∙_}
-use Prim.Native.Nat.{ℕ, suc, _<_}
+use Prim.Native.Nat.{ℕ, suc}
 use native.Mathlib.Omega.{arith}
-use lib.Dec.{leb, ltb}
+use lib.Dec.{leb}
 use lib.ListN.{length}
 use borrow.Author.Tests.{le-ltb, lt-ltb}
 use Rattle.basics.proofs.Tests.{and-left, and-right, bool-cases, clash, or-none}
@@ -23,7 +23,7 @@ use Rattle.routing.specs.Walks.{afterOf, begunOf, clientEnd, goesOn, isFailureC
 use Rattle.volumeshelf.specs.Entry.{ClientsLooked, Goes, NodesLooked, PicksPart, StepsPart}
 use Rattle.volumeshelf.specs.Volumes.{CallsVolume}
 use Rattle.volumeshelf.proofs.Called.{begun, begun-each, begun-one, begun-outside, begun-refused, called, fits}
-use Rattle.volumeshelf.proofs.Turn.{Lent, Makes}
+use Rattle.volumeshelf.proofs.Turn.{Lent}
 
 -- ---- after the records were looked at
 

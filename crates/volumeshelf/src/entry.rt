@@ -56,50 +56,7 @@ fn step_part(
     )
 }
 
-// A pick on them.
-fn pick_part(
-    nodes: &mut [NodeRecord],
-    clients: &mut [ClientRecord],
-    blocks: &mut [u8],
-    spare: &mut [u8],
-    differences: &mut [u8],
-    value: &[u8],
-    walk: Walk,
-) -> Answer
-    ensures { λ r. ⌜ PicksPart (now (nodes .entry)) (now (clients .entry)) (now (blocks .entry)) (now (spare .entry)) (now (differences .entry))
-        (now (value .entry)) walk r (now (nodes .exit)) (now (clients .exit)) (now (blocks .exit)) (now (spare .exit)) (now (differences .exit)) ⌝ }
-{
-    let n0 = nodes.len();
-    let a0 = walk.nodes_from(n0);
-    let e0 = walk.nodes_to(n0);
-    let n1 = clients.len();
-    let a1 = walk.clients_from(n1);
-    let e1 = walk.clients_to(n1);
-    let n2 = blocks.len();
-    let a2 = walk.blocks_from(n2);
-    let e2 = walk.blocks_to(n2);
-    let n3 = spare.len();
-    let a3 = walk.blocks_from(n3);
-    let e3 = walk.blocks_to(n3);
-    let n4 = differences.len();
-    let a4 = walk.differences_from(n4);
-    let e4 = walk.differences_to(n4);
-    let n5 = value.len();
-    let a5 = walk.value_from(n5);
-    let e5 = walk.value_to(n5);
-    let request = walk.pick();
-    shelf::pick(
-        &mut nodes[a0..e0],
-        &mut clients[a1..e1],
-        &mut blocks[a2..e2],
-        &mut spare[a3..e3],
-        &mut differences[a4..e4],
-        &value[a5..e5],
-        request,
-    )
-}
-
-// The same where the call goes to one stripe alone.
+// The same of a call that goes to one stripe alone. A function with one caller is compiled into it: this one into `call`, for speed.
 fn step_one(
     nodes: &mut [NodeRecord],
     clients: &mut [ClientRecord],
@@ -142,8 +99,50 @@ fn step_one(
     )
 }
 
-// The stripes that a call goes to, one after the other. It has two callers: one alone would have it compiled into itself, and a step of one stripe would
-// pay for it.
+// A pick on such parts.
+fn pick_part(
+    nodes: &mut [NodeRecord],
+    clients: &mut [ClientRecord],
+    blocks: &mut [u8],
+    spare: &mut [u8],
+    differences: &mut [u8],
+    value: &[u8],
+    walk: Walk,
+) -> Answer
+    ensures { λ r. ⌜ PicksPart (now (nodes .entry)) (now (clients .entry)) (now (blocks .entry)) (now (spare .entry)) (now (differences .entry))
+        (now (value .entry)) walk r (now (nodes .exit)) (now (clients .exit)) (now (blocks .exit)) (now (spare .exit)) (now (differences .exit)) ⌝ }
+{
+    let n0 = nodes.len();
+    let a0 = walk.nodes_from(n0);
+    let e0 = walk.nodes_to(n0);
+    let n1 = clients.len();
+    let a1 = walk.clients_from(n1);
+    let e1 = walk.clients_to(n1);
+    let n2 = blocks.len();
+    let a2 = walk.blocks_from(n2);
+    let e2 = walk.blocks_to(n2);
+    let n3 = spare.len();
+    let a3 = walk.blocks_from(n3);
+    let e3 = walk.blocks_to(n3);
+    let n4 = differences.len();
+    let a4 = walk.differences_from(n4);
+    let e4 = walk.differences_to(n4);
+    let n5 = value.len();
+    let a5 = walk.value_from(n5);
+    let e5 = walk.value_to(n5);
+    let request = walk.pick();
+    shelf::pick(
+        &mut nodes[a0..e0],
+        &mut clients[a1..e1],
+        &mut blocks[a2..e2],
+        &mut spare[a3..e3],
+        &mut differences[a4..e4],
+        &value[a5..e5],
+        request,
+    )
+}
+
+// The stripes that a call goes to, one after the other. It has two callers, and so is not compiled into `call`, where a step of one stripe would pay for it.
 fn each(
     nodes: &mut [NodeRecord],
     clients: &mut [ClientRecord],

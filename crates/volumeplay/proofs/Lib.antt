@@ -1,0 +1,4 @@
+pub mod Asked
+pub mod Parts
+pub mod Taken
+pub mod Types

@@ -1,0 +1,8 @@
+-- By the line. Assumes nothing.
+use mathlib.Core.Path.{_∙_}
+use borrow.Author.Needs.{needs}
+use Rattle.volumeplay.proofs.Turn.read.Statement.{statement}
+use Rattle.volumeplay.proofs.Turn.read.Tie as tie
+
+pub read-spec : {M : Type 1} → statement M
+read-spec = tie.close (tie.spec (λ c κs. search needs) (λ c κs. search needs) (λ c. c .read .ensures ∙ rw (c .before .volume .ensures)))

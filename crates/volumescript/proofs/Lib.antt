@@ -1,0 +1,3 @@
+pub mod Clipping
+pub mod Clips
+pub mod Reading
