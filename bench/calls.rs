@@ -4,13 +4,18 @@ use plain::{Client, Node, Sizes, Stripe};
 use std::cmp::Ordering;
 use std::hint::black_box;
 use tables::{accepted, callbench_calls, one_call, proved};
-use tables::{Tables, Work, ADDS, CLIENTS, DUES, K, LENGTHS, LOST, N, REBUILD, SWAPS};
+use tables::{Tables, Work, ADDS, CLIENTS, DUES, K, LENGTHS, LOST, N, SWAPS};
 use timing::{best_of, met};
 
 mod plain;
 mod tables;
 mod timing;
-mod volumes;
+
+const REBUILD: Work = Work {
+    number: 3,
+    least: 1,
+    most: 4 * N + 1,
+};
 
 /// So many calls with blocks of b bytes in plain Rust.
 type Plain = fn(usize, usize, &mut Tables);
@@ -84,16 +89,6 @@ fn plain_rebuild(calls: usize, b: usize, tables: &mut Tables) {
     });
 }
 
-/// ns of so many calls, with the making of the tables: proved, and in plain Rust.
-fn timed(work: Work, plain: Plain, calls: usize, b: usize) -> [f64; 2] {
-    let (mut ours, mut theirs) = (Tables::new(b), Tables::new(b));
-    best_of(
-        || proved(callbench_calls, work, 0, calls, black_box(&mut ours)),
-        || plain(calls, b, black_box(&mut theirs)),
-    )
-    .map(|seconds| seconds * 1e9)
-}
-
 /// Lines of the table, which say the times of one call or of all. Both sides leave the same bytes. Returns the ratios.
 fn lines(name: &str, work: Work, plain: Plain, is_one: bool) -> [f64; 3] {
     LENGTHS.map(|b| {
@@ -101,11 +96,12 @@ fn lines(name: &str, work: Work, plain: Plain, is_one: bool) -> [f64; 3] {
         proved(callbench_calls, work, 0, work.most, &mut ours);
         plain(work.most, b, &mut theirs);
         assert!(ours.bytes() == theirs.bytes());
-        let times = |calls| timed(work, plain, calls, b);
+        let mut ours = |calls| proved(callbench_calls, work, 0, calls, black_box(&mut ours));
+        let mut theirs = |calls| plain(calls, b, black_box(&mut theirs));
         let [proved, plain] = if is_one {
-            one_call(work, times)
+            one_call(work, ours, theirs)
         } else {
-            times(work.most)
+            best_of(|| ours(work.most), || theirs(work.most)).map(|seconds| seconds * 1e9)
         };
         let ratio = proved / plain;
         println!("{name:<8}{b:>6}{proved:>12.0}{plain:>12.0}{ratio:>8.2}");
@@ -124,7 +120,9 @@ fn main() {
             [2.8, 1.6],
         ),
     ];
-    let [asking, _] = one_call(DUES, |calls| timed(DUES, |_, _, _| (), calls, 1));
+    let tables = &mut Tables::new(1);
+    let due = |calls| proved(callbench_calls, DUES, 0, calls, black_box(tables));
+    let [asking, _] = one_call(DUES, due, |_| ());
     println!("a call that only asks whether a node is due: {asking:.0} ns");
     println!("(12,18), 8 clients, lent tables, all in the cache. A swap is one of 8 at one node, one by each client; an add is one of 48, one by each client at each redundant node; the first call and the making of the tables are not in their time. A rebuild is 18 locks, a pick, 18 writes, 18 settles and 18 unlocks with 6 nodes lost, and the making of its tables.");
     for (name, ratios, [small, large]) in aims {
@@ -133,5 +131,4 @@ fn main() {
             met(&what, ratio, &format!("at most {most}"), ratio <= most);
         }
     }
-    volumes::measure();
 }

@@ -1,5 +1,6 @@
 //! The tables of a stripe or of a volume of such stripes, and the proved calls on them.
-use crate::timing::noise;
+use crate::timing::{best_of_all, noise};
+use std::cell::RefCell;
 
 pub const K: usize = 12;
 pub const N: usize = 18;
@@ -97,8 +98,8 @@ macro_rules! entry_points {
     };
 }
 
-// of one stripe; of a volume of one; of a volume of 1,024
-entry_points!(callbench_calls callbench_volume_calls callbench_large_volume_calls);
+// of one stripe
+entry_points!(callbench_calls);
 
 type EntryPoint = unsafe extern "C" fn(
     u8,
@@ -165,14 +166,15 @@ pub const ADDS: Work = Work {
     least: 1,
     most: LOST * CLIENTS,
 };
-pub const REBUILD: Work = Work {
-    number: 3,
-    least: 1,
-    most: 4 * N + 1,
-};
-
-/// ns of one call, without the first and the making of the tables, from the ns of so many calls with them.
-pub fn one_call(work: Work, timed: impl Fn(usize) -> [f64; 2]) -> [f64; 2] {
-    let (least, most) = (timed(work.least), timed(work.most));
-    [0, 1].map(|i| (most[i] - least[i]) / (work.most - work.least) as f64)
+/// ns of one call of either side, without the first and the making of the tables: the most calls and the fewest are timed in the same rounds.
+pub fn one_call(work: Work, ours: impl FnMut(usize), theirs: impl FnMut(usize)) -> [f64; 2] {
+    let (ours, theirs) = (RefCell::new(ours), RefCell::new(theirs));
+    let times = best_of_all([
+        &mut || (ours.borrow_mut())(work.least),
+        &mut || (theirs.borrow_mut())(work.least),
+        &mut || (ours.borrow_mut())(work.most),
+        &mut || (theirs.borrow_mut())(work.most),
+    ]);
+    let calls = (work.most - work.least) as f64;
+    [0, 1].map(|side| (times[2 + side] - times[side]) * 1e9 / calls)
 }

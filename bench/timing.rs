@@ -1,4 +1,4 @@
-//! Times of two things to compare, measured in many short rounds that alternate between the two.
+//! Times of things to compare, measured in many short rounds in each of which every one has its turn.
 use std::time::{Duration, Instant};
 
 const WARM_UP: Duration = Duration::from_millis(50);
@@ -18,7 +18,7 @@ pub fn noise(length: usize) -> Vec<u8> {
 }
 
 /// How many calls of `work` make a round, found in the warm-up.
-fn calls_in_a_round(work: &mut impl FnMut()) -> u32 {
+fn calls_in_a_round(work: &mut dyn FnMut()) -> u32 {
     let started = Instant::now();
     let mut calls = 0;
     while started.elapsed() < WARM_UP {
@@ -29,22 +29,27 @@ fn calls_in_a_round(work: &mut impl FnMut()) -> u32 {
 }
 
 /// Seconds that a call takes, over one round.
-fn round(work: &mut impl FnMut(), calls: u32) -> f64 {
+fn round(work: &mut dyn FnMut(), calls: u32) -> f64 {
     let started = Instant::now();
     (0..calls).for_each(|_| work());
     started.elapsed().as_secs_f64() / calls as f64
 }
 
 /// Seconds that a call of each takes: the best of all rounds.
-pub fn best_of(mut one: impl FnMut(), mut other: impl FnMut()) -> [f64; 2] {
-    let one_calls = calls_in_a_round(&mut one);
-    let other_calls = calls_in_a_round(&mut other);
-    let mut best = [f64::INFINITY; 2];
+pub fn best_of_all<const W: usize>(mut works: [&mut dyn FnMut(); W]) -> [f64; W] {
+    let calls = works.each_mut().map(|work| calls_in_a_round(work));
+    let mut best = [f64::INFINITY; W];
     for _ in 0..ROUNDS {
-        best[0] = best[0].min(round(&mut one, one_calls));
-        best[1] = best[1].min(round(&mut other, other_calls));
+        for i in 0..W {
+            best[i] = best[i].min(round(works[i], calls[i]));
+        }
     }
     best
+}
+
+/// The same of two.
+pub fn best_of(mut one: impl FnMut(), mut other: impl FnMut()) -> [f64; 2] {
+    best_of_all([&mut one, &mut other])
 }
 
 /// A line that says what was measured beside its aim, and MISSED where it is.

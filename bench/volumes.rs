@@ -1,13 +1,18 @@
 //! What a volume adds to the calls of one stripe: a swap and an add by its entry point beside the same by that of one stripe, and in one stripe of 1,024
 //! beside a volume of one; and how fast a lost card is rebuilt, beside a plain encode of the same stripes.
-use crate::tables::{
-    callbench_calls, callbench_large_volume_calls, callbench_volume_calls, one_call, proved,
-};
-use crate::tables::{Tables, Work, ADDS, DUES, K, LENGTHS, N, SWAPS};
-use crate::timing::{best_of, met};
 use mezgaudre::{encode, Answer};
 use std::hint::black_box;
 use std::thread;
+use tables::{callbench_calls, one_call, proved};
+use tables::{Tables, Work, ADDS, DUES, K, LENGTHS, N, SWAPS};
+use timing::{best_of, met};
+
+#[macro_use]
+mod tables;
+mod timing;
+
+// of a volume of one; of a volume of 1,024
+entry_points!(callbench_volume_calls callbench_large_volume_calls);
 
 const STRIPES: usize = 1024;
 const STRIPE: usize = 511;
@@ -41,35 +46,30 @@ fn line(name: &str, b: usize, [ours, theirs]: [f64; 2], aim: f64) {
     }
 }
 
-/// ns of one call in a volume of one stripe, and by the entry point of one stripe.
+/// ns of one call in a volume of one stripe, and by the entry point of one stripe. Both leave the same bytes.
 fn in_one(work: Work, b: usize) -> [f64; 2] {
     let (mut ours, mut theirs) = (Tables::new(b), Tables::new(b));
     proved(callbench_volume_calls, work, 0, work.most, &mut ours);
     proved(callbench_calls, work, 0, work.most, &mut theirs);
     assert!(ours.bytes() == theirs.bytes());
-    one_call(work, |calls| {
-        let (mut ours, mut theirs) = (Tables::new(b), Tables::new(b));
-        best_of(
-            || proved(callbench_volume_calls, work, 0, calls, black_box(&mut ours)),
-            || proved(callbench_calls, work, 0, calls, black_box(&mut theirs)),
-        )
-        .map(|seconds| seconds * 1e9)
-    })
+    one_call(
+        work,
+        |calls| proved(callbench_volume_calls, work, 0, calls, black_box(&mut ours)),
+        |calls| proved(callbench_calls, work, 0, calls, black_box(&mut theirs)),
+    )
 }
 
 /// ns of one call in one stripe of 1,024, and in a volume of one.
 fn in_many(work: Work, b: usize) -> [f64; 2] {
-    one_call(work, |calls| {
-        let (mut ours, mut theirs) = (Tables::of_volume(b, STRIPES, STRIPE, b), Tables::new(b));
-        best_of(
-            || {
-                let tables = black_box(&mut ours);
-                proved(callbench_large_volume_calls, work, STRIPE, calls, tables)
-            },
-            || proved(callbench_volume_calls, work, 0, calls, black_box(&mut theirs)),
-        )
-        .map(|seconds| seconds * 1e9)
-    })
+    let (mut ours, mut theirs) = (Tables::of_volume(b, STRIPES, STRIPE, b), Tables::new(b));
+    one_call(
+        work,
+        |calls| {
+            let tables = black_box(&mut ours);
+            proved(callbench_large_volume_calls, work, STRIPE, calls, tables)
+        },
+        |calls| proved(callbench_volume_calls, work, 0, calls, black_box(&mut theirs)),
+    )
 }
 
 /// Encodes every stripe.
@@ -126,7 +126,7 @@ fn measure_all() {
 }
 
 /// In a thread with room for the records of the volume on its stack.
-pub fn measure() {
+fn main() {
     let measuring = thread::Builder::new().stack_size(STACK).spawn(measure_all);
     measuring.unwrap().join().unwrap();
 }
