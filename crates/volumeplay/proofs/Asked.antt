@@ -1,5 +1,5 @@
 -- What is asked of the volume for a line that was read is what the line stands for, from its bytes to the volume's step. Assumes nothing.
-use mathlib.Core.Bool.{Bool, true, false, _&&_}
+use mathlib.Core.Bool.{Bool, true, _&&_}
 use mathlib.Core.List.{List, [], _∷_, _++_}
 use mathlib.Core.Path.{_≡_, refl, sym, ap, subst, _∙_}
 use Prim.Native.Nat.{ℕ, suc, min, _-_, _*_, _≤_, _<_}
@@ -35,35 +35,12 @@ use Rattle.volume.specs.Volume as volume
 use Rattle.volume.specs.Volume.{noStripe, on, stripeAt, stripeLimit, volumeStep}
 use Rattle.volumescript.specs.declared.reader.VolumeLine.{VolumeLine}
 use Rattle.volumescript.specs.declared.reader.VolumeLine.the-variants.{Unreadable, One, Each, ReadBlock, SwapBlock, Show}
-use Rattle.volumescript.specs.Asking.{callIn, countIn, readIn}
+use Rattle.volumescript.specs.Asking.{callIn, countIn, isCall, isRead, readIn}
 use Rattle.volumescript.specs.Lines.{lineStep, volumeLine}
 use Rattle.volumescript.specs.Reading.{clippedLine, lineTold}
 use Rattle.volumescript.proofs.Clipping.{Roomy, clip-line}
 use Rattle.volumeshelf.specs.Volumes.{callOf, ofStripe, volumeIn}
 use Rattle.volumeshelf.proofs.Turn.{Lent, stripe-at, stripe-count}
-
--- whether a line is a call but read, and whether it is a read
-abbrev pub isCall : VolumeLine → Bool
-isCall Unreadable = false
-isCall (One s (Calls.Read i) n) = false
-isCall (One s (Calls.Pick c) n) = true
-isCall (One s (Calls.Step call) n) = true
-isCall (Each (Calls.Read i) n) = false
-isCall (Each (Calls.Pick c) n) = true
-isCall (Each (Calls.Step call) n) = true
-isCall (ReadBlock b) = false
-isCall (SwapBlock c b n) = true
-isCall (Show s) = false
-
-abbrev pub isRead : VolumeLine → Bool
-isRead Unreadable = false
-isRead (One s (Calls.Read i) n) = true
-isRead (One s (Calls.Pick c) n) = false
-isRead (One s (Calls.Step call) n) = false
-isRead (Each call n) = false
-isRead (ReadBlock b) = true
-isRead (SwapBlock c b n) = false
-isRead (Show s) = false
 
 -- bytes that are more than any call takes are refused, whatever they are
 module _ (z : records.Sizes) (u : volume.Volume) (one other : List ℕ) (block : z .b < length one) (card : length (u .stripes) * z .b < length one)

@@ -1,4 +1,5 @@
 -- What a line asks of the volume. Assumes nothing.
+use mathlib.Core.Bool.{Bool, true, false}
 use Prim.Native.Nat.{ℕ}
 use Rattle.calls.specs.declared.Call as call
 use Rattle.calls.specs.declared.Call.the-variants as Calls
@@ -10,6 +11,29 @@ use Rattle.routing.specs.declared.Volume.{Volume}
 use Rattle.routing.specs.declared.VolumeCall.the-variants.{Pick, Step}
 use Rattle.volumescript.specs.declared.reader.VolumeLine.{VolumeLine}
 use Rattle.volumescript.specs.declared.reader.VolumeLine.the-variants.{Unreadable, One, Each, ReadBlock, SwapBlock, Show}
+
+-- whether a line is a read, and whether it is another call
+abbrev pub isRead : VolumeLine → Bool
+isRead Unreadable = false
+isRead (One s (Calls.Read i) count) = true
+isRead (One s (Calls.Pick c) count) = false
+isRead (One s (Calls.Step step) count) = false
+isRead (Each call count) = false
+isRead (ReadBlock b) = true
+isRead (SwapBlock c b count) = false
+isRead (Show s) = false
+
+abbrev pub isCall : VolumeLine → Bool
+isCall Unreadable = false
+isCall (One s (Calls.Read i) count) = false
+isCall (One s (Calls.Pick c) count) = true
+isCall (One s (Calls.Step step) count) = true
+isCall (Each (Calls.Read i) count) = false
+isCall (Each (Calls.Pick c) count) = true
+isCall (Each (Calls.Step step) count) = true
+isCall (ReadBlock b) = false
+isCall (SwapBlock c b count) = true
+isCall (Show s) = false
 
 -- the call, and the read. A line that is none asks for one that every volume refuses
 

@@ -1,5 +1,6 @@
 // What the printing of a line goes by: whether it reads, the stripe whose records are looked at, the client that picks.
 ghost use mathlib.Core.Path.{_≡_};
+ghost use Rattle.volumescript.specs.Asking.{isRead};
 ghost use Rattle.volumescript.specs.Looking.{clientsLooked, nodesLooked, pickerOf};
 use crate::reader::VolumeLine;
 use calls::Call;
@@ -11,7 +12,9 @@ pub enum Looked {
 }
 
 impl VolumeLine {
-    pub fn is_read(self) -> bool {
+    pub fn is_read(self) -> bool
+        ensures { λ r. ⌜ r ≡ isRead self ⌝ }
+    {
         match self {
             VolumeLine::Unreadable => false,
             VolumeLine::One(_, call, _) => match call {
