@@ -11,9 +11,15 @@ The claim, as read here. Since the last finished rebuild, or from the start:
            each data block is the value of the last swap at its position (what
            that rebuild gave, or zero, if there is none).
 
+At any time, by request C-12 of document 02:
+
+  TICK     A tick changes ages only: all else of the records and the three
+           tables is as before.
+
 The first part is chosen for each position by itself. What is accepted, done,
 finished or failed is read off the calls and their answers only; the blocks
-are looked at to see what a finished rebuild gave, and to check the claim.
+are looked at to see what a finished rebuild gave, and all of the stripe to
+check the claim.
 
     guarantee.py < SCRIPT               checks one striperun script
     guarantee.py --seed S --calls N     checks random scripts, N calls in all
@@ -21,7 +27,7 @@ are looked at to see what a finished rebuild gave, and to check the claim.
 
 import argparse
 import sys
-from dataclasses import dataclass
+from dataclasses import dataclass, replace
 
 import lists
 from code import block, codeword
@@ -30,7 +36,7 @@ from striperun import new_stripe, read_sizes
 
 
 class Broken(Exception):
-    """Demand 3 does not hold of the script."""
+    """The claim does not hold of the script."""
 
 
 def demand(condition, text):
@@ -140,6 +146,20 @@ def check_steady(history, blocks):
         demand(blocks[p] == history.values(p)[-1], f"block {p + 1} is not the last value written")
 
 
+def but_for_ages(stripe):
+    """All of the stripe, without the ages."""
+    nodes = [replace(node, entries=[(e.id, e.recent) for e in node.entries]) for node in stripe.nodes.values()]
+    return nodes, repr(stripe.clients), bytes(stripe.blocks), bytes(stripe.spare), bytes(stripe.differences)
+
+
+def ticked(stripe):
+    """The answer of a tick. Raises Broken if it changes more than ages."""
+    before = but_for_ages(stripe)
+    answer = stripe.tick()
+    demand(but_for_ages(stripe) == before, "a tick changed more than ages")
+    return answer
+
+
 def all_blocks(stripe):
     return [block(stripe.blocks, j, stripe.sizes.B) for j in range(1, stripe.sizes.n + 1)]
 
@@ -151,12 +171,15 @@ def begun(stripe):
     return history
 
 
-def follow(history, call, answer, stripe):
-    """Enters a call and its answer, and checks the stripe that it left. Raises Broken."""
+def followed(history, call, stripe):
+    """Makes a call, enters it, and checks the stripe that it left; its answer. Raises Broken."""
+    is_tick = call is not None and call.name == "tick"
+    answer = ticked(stripe) if is_tick else answer_of(stripe, call)
     blocks = all_blocks(stripe)
     if answer.accepted:
         note(history, call, answer, blocks)
     check_steady(history, blocks)
+    return answer
 
 
 def replay(lines, new_stripe=new_stripe):
@@ -167,10 +190,8 @@ def replay(lines, new_stripe=new_stripe):
     stripe = new_stripe(sizes)
     history = begun(stripe)
     for at, line in enumerate(lines, start=2):
-        call = read_call(line)
-        answer = answer_of(stripe, call)
         try:
-            follow(history, call, answer, stripe)
+            followed(history, read_call(line), stripe)
         except Broken as broken:
             raise Broken(f"line {at}, {line.decode('latin-1')}: {broken}") from None
     return history

@@ -7,8 +7,9 @@
 
 The author of a script drives the machine, so that it knows what is plausible
 next: most rebuilds that begin also finish, and stops, failures, resumed
-rebuilds, full lists and late adds occur often. The same options give the
-same script.
+rebuilds, full lists and late adds occur often. Where the program knows ticks,
+nodes come due by age, and ages reach 255. The same options give the same
+script.
 """
 
 import argparse
@@ -19,10 +20,12 @@ from collections import Counter
 
 from script import FORMS, SHELF_FORMS, answer_of, read_call
 from shelfrun import SIZES as SHELF_SIZES
-from stripe import EXP, LOCKING, NORM, PICKING, SETTLING, UNLOCKING, WRITING, Sizes
+from stripe import EXP, LOCKING, NORM, PICKING, SETTLING, UNLOCKING, WRITING
+from stripe import Entry, Node, Sizes
 from striperun import new_stripe
 
 LETTERS = {name: letter for letter, (name, _, _) in FORMS.items()}
+WITH_NUMBERS = [name for name, count, _ in FORMS.values() if count > 0]
 
 # What a client with nothing begun does next, by mood: weights.
 MOODS = [
@@ -125,9 +128,9 @@ class Author:
     # ---------------------------------------------------------- calls
 
     def arbitrary_call(self):
-        """Any call, some arguments out of range, some values of wrong length."""
+        """Any call with numbers, some of them out of range, some values of wrong length."""
         sizes = self.stripe.sizes
-        name = self.rng.choice(list(LETTERS))
+        name = self.rng.choice(WITH_NUMBERS)
         if name in ("read", "due"):
             return text(name, self.odd_number(sizes.n))
         if name == "fail":
@@ -140,6 +143,8 @@ class Author:
 
     def plausible_call(self):
         self.change_mood()
+        if LETTERS["tick"] in self.forms and self.chance(0.04):
+            return self.pass_time()
         if self.chance(1 / (8 * self.stripe.sizes.n)):
             return self.trouble()
         self.choose_actor()
@@ -376,6 +381,41 @@ class Author:
     def many_done(self, c, d):
         """c's finished list becomes full."""
         return self.done_write(c, self.clean_position()) * 10
+
+    # ----------------------------------------------------------- time
+
+    def pass_time(self):
+        """A tick; now and then a time begins in which hardly anybody calls."""
+        if not self.plan and self.chance(0.1):
+            plans = [self.friday, self.late_sweep, self.quiet] if self.all_free() else [self.quiet]
+            self.plan = self.rng.choice(plans)(*self.two_clients())
+        return text("tick")
+
+    def ticks_past(self, j):
+        """Ticks until node j's oldest age is past the limit, or can't rise; it is asked around that."""
+        age = max((e.age for e in self.stripe.nodes[j].entries if e.recent), default=0)
+        last = Node.DUE_AGE if age < Node.DUE_AGE and self.chance(0.75) else Entry.MAX_AGE
+        return [text("tick")] * (last - 3 - age) + [text("tick"), text("due", j)] * 4
+
+    def friday(self, c, d):
+        """d stops after its swap and some adds, perhaps beside a write of c that is marked old."""
+        i = self.clean_position()
+        swap, *adds = self.done_write(d, i)
+        stopped = [swap] + self.rng.sample(adds, self.rng.randint(0, len(adds))) + [text("stop", d)]
+        marked = self.done_write(c, i) + [text("tick")] + self.sweep_round(c) if self.chance(0.5) else []
+        return marked + stopped + self.ticks_past(i)
+
+    def late_sweep(self, c, d):
+        """c's write comes due, and is so no more once it is marked old."""
+        i = self.clean_position()
+        swept = self.sweep_round(c) + [text("tick"), text("due", i)]
+        return self.done_write(c, i) + self.ticks_past(i) + swept
+
+    def quiet(self, c, d):
+        """A node comes due as it is, of any opmode and lmode, one with old entries too if there is."""
+        recent = [j for j, node in self.stripe.nodes.items() if node.recent_ids()]
+        mixed = [j for j in recent if self.stripe.nodes[j].old_ids()]
+        return self.ticks_past(self.rng.choice(mixed or recent)) if recent else []
 
     # --------------------------------------------------------- safety
 

@@ -2,16 +2,16 @@
 
 Each mutant is the text of stripe.py, or of volume.py, with one edit. A mutant
 is noticed by a list if the output of striperun, or of volumerun, differs from
-that without the edit. A stripe's mutants with a list of their own break demand
-3, and guarantee.py must say so on that list. A volume's mutants are noticed by
-their own list, and by each stripe's calls made alone on it (takenout.py);
-those of its limits by their own list only.
+that without the edit. A stripe's mutants with a list of their own break the
+claim of guarantee.py, which must say so on that list; those of ages are
+noticed by their own list only. A volume's mutants are noticed by their own
+list, and by each stripe's calls made alone on it (takenout.py); those of its
+limits by their own list only.
 
     mutants.py [--seed S] [--lists N]
 """
 
 import argparse
-import random
 import types
 from pathlib import Path
 from typing import NamedTuple
@@ -22,6 +22,7 @@ import striperun
 import takenout
 import volumelists
 import volumerun
+from script import spelled_out
 
 FOLDER = Path(__file__).parent
 STRIPE = (FOLDER / "stripe.py").read_text()
@@ -112,6 +113,22 @@ MUTANTS = [
         "",
         "2 4 1 1 2, S 2 1 01, L 1 x4, P 1, W 1, Q 1, L 1 x4, O 1, A 2 3, A 2 4",
     ),
+    # A tick that changes more than ages.
+    Mutant(
+        "a tick marks old what is due",
+        "e.age = min(e.age + 1, Entry.MAX_AGE)\n",
+        "e.age = min(e.age + 1, Entry.MAX_AGE)\n"
+        "                e.recent = e.age < self.DUE_AGE\n",
+        "2 4 1 1 2, S 1 1 01, K x64",
+    ),
+    Mutant(
+        "a tick expires what is locked",
+        "            node.tick()\n",
+        "            node.tick()\n"
+        "            if node.lmode == L1:\n"
+        "                node.set_lock(EXP)\n",
+        "2 4 1 1 2, L 1, K",
+    ),
     # Others, which the comparison notices.
     Mutant(
         "previous id from all entries",
@@ -134,11 +151,6 @@ MUTANTS = [
         "finished not moved",
         "client.moved, client.finished = client.finished, []",
         "client.finished = []",
-    ),
-    Mutant(
-        "marking forgets the age",
-        "                e.recent = False",
-        "                e.recent, e.age = False, 0",
     ),
     Mutant(
         "write clears entries",
@@ -244,16 +256,6 @@ MUTANTS = [
         "        # Its write number stays.",
     ),
     Mutant(
-        "adds are not aged",
-        "            e.age = min(e.age + 1, Entry.MAX_AGE)",
-        "            e.age = e.age + (id.client != 1)",
-    ),
-    Mutant(
-        "old entries are not aged",
-        "            e.age = min(e.age + 1, Entry.MAX_AGE)",
-        "            e.age = e.age + e.recent",
-    ),
-    Mutant(
         "recent entries only are counted",
         "return len(self.entries) == self.MAX_ENTRIES",
         "return len(self.recent_ids()) == self.MAX_ENTRIES",
@@ -289,6 +291,80 @@ MUTANTS = [
         "quit gives back",
         "        self.lose(c)\n        return ACCEPTED",
         "        self.give_back(c, self.clients[c].rebuild)\n        return ACCEPTED",
+    ),
+]
+
+
+AGE_MUTANTS = [
+    Mutant(
+        "a tick ages old entries",
+        "            if e.recent:\n                e.age",
+        "            if True:\n                e.age",
+        "2 4 1 1 2, S 1 1 01, A 1 3, A 1 4, G 1 x5, K",
+    ),
+    Mutant(
+        "a tick passes 255",
+        "min(e.age + 1, Entry.MAX_AGE)",
+        "e.age + 1",
+        "2 4 1 1 2, S 1 1 01, K x256",
+    ),
+    Mutant("a tick stops at 254", "MAX_AGE = 255", "MAX_AGE = 254", "2 4 1 1 2, S 1 1 01, K x255"),
+    Mutant(
+        "a tick stops at the limit",
+        "min(e.age + 1, Entry.MAX_AGE)",
+        "min(e.age + 1, self.DUE_AGE)",
+        "2 4 1 1 2, S 1 1 01, K x65",
+    ),
+    Mutant(
+        "a tick ages the oldest entry only",
+        "        for e in self.entries:\n            if e.recent:\n                e.age",
+        "        for e in self.entries[:1]:\n            if e.recent:\n                e.age",
+        "2 4 1 1 2, S 1 1 01, S 2 1 02, K",
+    ),
+    *[
+        Mutant(
+            f"a tick of {some} nodes only",
+            "        for node in self.nodes.values():\n            node.tick()",
+            f"        for j in self.{nodes}():\n            self.nodes[j].tick()",
+            "2 4 1 1 2, S 1 1 01, A 1 3, K",
+        )
+        for some, nodes in [("data", "positions"), ("redundant", "redundant_nodes")]
+    ],
+    *[
+        Mutant(
+            f"a tick passes over {mode}",
+            "            node.tick()\n",
+            f"            if {mode} not in (node.opmode, node.lmode):\n"
+            "                node.tick()\n",
+            f"2 4 1 1 2, S 1 1 01, A 1 3, {calls}, K",
+        )
+        for mode, calls in [("L1", "L 2"), ("L0", "L 2 x4, O 2"), ("EXP", "L 2, Q 2"), ("RECONS", "L 2 x4, P 2, W 2")]
+    ],
+    Mutant(
+        "a swap ages",
+        "        node.enter(id)\n",
+        "        node.tick()\n        node.enter(id)\n",
+        "2 4 1 1 2, S 1 1 01, S 2 1 02",
+    ),
+    Mutant(
+        "an add ages",
+        "        node.enter(hand.id)\n",
+        "        node.tick()\n        node.enter(hand.id)\n",
+        "2 4 1 1 2, S 1 1 01, A 1 3, S 2 2 02, A 2 3",
+    ),
+    Mutant(
+        "marking forgets the age",
+        "                e.recent = False",
+        "                e.recent, e.age = False, 0",
+        "2 4 1 1 2, S 1 1 01, A 1 3, A 1 4, K, G 1 x5",
+    ),
+    Mutant("due at 63", "DUE_AGE = 64", "DUE_AGE = 63", "2 4 1 1 2, S 1 1 01, K x63, Z 1"),
+    Mutant("due at 65", "DUE_AGE = 64", "DUE_AGE = 65", "2 4 1 1 2, S 1 1 01, K x64, Z 1"),
+    Mutant(
+        "due by old entries",
+        "any(e.recent and e.age >= self.DUE_AGE",
+        "any(e.age >= self.DUE_AGE",
+        "2 4 1 1 2, S 1 1 01, A 1 3, A 1 4, K x64, G 1 x5, Z 1",
     ),
 ]
 
@@ -367,6 +443,14 @@ VOLUME_MUTANTS = [
         "2 2 4 1 0 1, 1 S 1 1 01, ? 1",
     ),
     Mutant(
+        "a tick of every stripe",
+        "        return answer_of(self.stripes[s], call)",
+        "        if call.name == 'tick':\n"
+        "            return one_answer(stripe.tick() for stripe in self.stripes)\n"
+        "        return answer_of(self.stripes[s], call)",
+        "2 2 4 1 0 1, 0 S 1 1 01, 1 K, ? 0",
+    ),
+    Mutant(
         "stripes counted around",
         "        if not self.is_stripe(s):\n"
         "            return Answer(2)\n"
@@ -420,14 +504,7 @@ def stripe_maker(module):
     return new_stripe
 
 
-def script_of(calls):
-    """Its lines: L 1 x3, P 1 stands for L 1, L 1, L 1, P 1."""
-    for item in calls.split(", "):
-        call, _, times = item.partition(" x")
-        yield from [call.strip().encode()] * int(times or 1)
-
-
-def breaks_demand3(module, lines):
+def breaks_claim(module, lines):
     try:
         guarantee.replay(lines, stripe_maker(module))
     except guarantee.Broken:
@@ -459,26 +536,16 @@ def unequal(expected, got):
 
 
 def check_breaking(mutant):
-    """Its own list, if any, breaks demand 3 of the mutant and not of the machine."""
+    """Its own list, if any, breaks the claim of the mutant and not of the machine."""
     mutated(mutant)
-    if not mutant.own:
-        return
-    lines = list(script_of(mutant.own))
-    guarantee.replay(lines)
-    if not breaks_demand3(mutated(mutant), lines):
-        raise Unnoticed(mutant.name)
+    if mutant.own:
+        guarantee.replay(spelled_out(mutant.own))
+        check_noticed(mutant, STRIPE, breaks_claim)
 
 
-def check_noticed(mutant):
-    """The own list of a volume's mutant notices it."""
-    if not volume_differs(mutated(mutant, VOLUME), list(script_of(mutant.own))):
-        raise Unnoticed(mutant.name)
-
-
-def check_apart(mutant):
-    """The own list of a volume's mutant notices it, and so do the stripes alone."""
-    check_noticed(mutant)
-    if not goes_apart(mutated(mutant, VOLUME), list(script_of(mutant.own))):
+def check_noticed(mutant, source, notices):
+    """By its own list."""
+    if not notices(mutated(mutant, source), list(spelled_out(mutant.own))):
         raise Unnoticed(mutant.name)
 
 
@@ -496,10 +563,14 @@ def unnoticed(mutants, source, scripts, differs, breaks, text):
 
 
 def check_own_lists():
-    checks = [(check_breaking, MUTANTS), (check_apart, VOLUME_MUTANTS), (check_noticed, VOLUME_LIMITS)]
-    for check, mutants in checks:
-        for mutant in mutants:
-            check(mutant)
+    for mutant in MUTANTS:
+        check_breaking(mutant)
+    for mutant in AGE_MUTANTS:
+        check_noticed(mutant, STRIPE, differs)
+    for mutant in VOLUME_MUTANTS + VOLUME_LIMITS:
+        check_noticed(mutant, VOLUME, volume_differs)
+    for mutant in VOLUME_MUTANTS:
+        check_noticed(mutant, VOLUME, goes_apart)
 
 
 def main():
@@ -511,7 +582,7 @@ def main():
     scripts = [list(lists.stripe_script(seed, 2000)) for seed in seeds]
     volume_scripts = [list(volumelists.volume_script(seed, 1000)) for seed in seeds]
     check_own_lists()
-    names = unnoticed(MUTANTS, STRIPE, scripts, differs, breaks_demand3, "break demand 3")
+    names = unnoticed(MUTANTS + AGE_MUTANTS, STRIPE, scripts, differs, breaks_claim, "break the claim")
     names += unnoticed(VOLUME_MUTANTS, VOLUME, volume_scripts, volume_differs, goes_apart, "go apart")
     if names:
         raise Unnoticed(", ".join(names))

@@ -32,6 +32,7 @@ SHELF_FORMS = {
 # with the letters that only striperun knows
 FORMS = SHELF_FORMS | {
     b"Z": ("due", 1, False),
+    b"K": ("tick", 0, False),
 }
 
 # volumerun: lines of the whole volume, and after a stripe's number striperun's but these
@@ -103,6 +104,13 @@ def read_volume_call(line):
         return read_call(line, VOLUME_FORMS)
     call = read_call(rest, ONE_STRIPE_FORMS)
     return call and Call("on_stripe", (number(first), call))
+
+
+def spelled_out(calls):
+    """The lines of calls in short: L 1 x3, P 1 stands for L 1, L 1, L 1, P 1."""
+    for item in calls.split(", "):
+        call, _, times = item.partition(" x")
+        yield from [call.strip().encode()] * int(times or 1)
 
 
 def values_of(call):

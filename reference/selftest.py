@@ -3,7 +3,7 @@
 import random
 import time
 from collections import Counter
-from itertools import combinations
+from itertools import combinations, product
 from pathlib import Path
 
 import code
@@ -19,8 +19,8 @@ import takenout
 import volumelists
 import volumerun
 from answers import ACCEPTED, Answer
-from script import answer_of, lines_of, read_call, read_volume_call
-from stripe import INIT, L0, L1, MAX_EPOCH, MAX_WRITES, NORM, PICKING, RECONS
+from script import answer_of, lines_of, read_call, read_volume_call, spelled_out
+from stripe import EXP, INIT, L0, L1, MAX_EPOCH, MAX_WRITES, NORM, PICKING, RECONS, UNL
 from stripe import Entry, Node, Rebuild, Sizes, WriteId
 from striperun import new_stripe
 from volume import VolumeSizes, card_of, home, node_on
@@ -108,7 +108,7 @@ def played(sizes, calls):
     """A stripe and its last answer after calls written as "L 1 x4, P 1"."""
     stripe = new_stripe(Sizes(*sizes))
     answer = None
-    for line in mutants.script_of(calls):
+    for line in spelled_out(calls):
         answer = answer_of(stripe, read_call(line))
     return stripe, answer
 
@@ -170,11 +170,98 @@ def test_due():
     equal(played((2, 4, 1, 1, 2), "Z 0")[1], Answer(2))
 
 
-def test_ages():
-    node = Node(entries=[Entry(WriteId(1, 1, 0), False, 254)])
-    node.enter(WriteId(1, 1, 1))
-    node.enter(WriteId(1, 1, 2))
-    equal([e.age for e in node.entries], [255, 1, 0])
+# a controller stops after its swap and an add
+FRIDAY = "S 1 1 01, A 1 3, C 1"
+
+
+def aged(calls):
+    """The stripe after FRIDAY and the calls, and the ages of each node's entries."""
+    stripe, _ = played((2, 4, 1, 1, 2), f"{FRIDAY}, {calls}")
+    return stripe, ages(stripe)
+
+
+def ages(stripe):
+    return [[e.age for e in node.entries] for node in stripe.nodes.values()]
+
+
+def due_nodes(stripe):
+    return [j for j in stripe.nodes if stripe.due(j) == Answer(0, "due")]
+
+
+def test_ticks():
+    equal(played((2, 4, 1, 1, 2), "K")[1], ACCEPTED)
+    for ticks, age, due in [(1, 1, []), (63, 63, []), (64, 64, [1, 3]), (255, 255, [1, 3]), (300, 255, [1, 3])]:
+        stripe, got = aged(f"K x{ticks}")
+        equal(got, [[age], [], [age], []])
+        equal(due_nodes(stripe), due)
+
+
+def test_nothing_else_ages():
+    later = "S 2 1 02, A 2 3, D 2, S 2 2 03, A 2 3, A 2 4, H 2 1, G 2 x8, R 1, Z 1, L 2 x4, P 2, W 2, Q 2"
+    stripe, got = aged(f"K x63, {later}")
+    equal(got, [[63, 0], [0], [63, 0, 0], [0]])
+    equal(due_nodes(stripe), [])
+
+
+def test_old_entries_keep_their_ages():
+    """Client 1's write is marked old at nodes 1 to 3, then at node 4, beside one of client 2 or not."""
+    done = "S 1 1 01, A 1 3, A 1 4, K x70"
+    stripe, _ = played((2, 4, 1, 1, 2), f"{done}, G 1 x7, K x5, G 1, K x5")
+    equal(ages(stripe), [[70], [], [70], [75]])
+    equal(due_nodes(stripe), [])
+    stripe, _ = played((2, 4, 1, 1, 2), f"{done}, S 2 1 02, A 2 3, G 1 x7, K x64")
+    equal(ages(stripe), [[70, 64], [], [70, 64], [134]])
+    equal(due_nodes(stripe), [1, 3, 4])
+
+
+def test_ticks_of_every_node():
+    """Whatever its opmode and lmode. No list gives an INIT node an entry."""
+    for calls in ["L 2", "L 2 x4", "L 2 x4, O 2", "L 2 x4, Q 2", "L 2 x4, P 2, W 2 x4", "L 2 x4, P 2, W 2 x4, C 2"]:
+        equal(aged(f"{calls}, K")[1], [[1], [], [1], []])
+    for opmode, lmode in product([NORM, RECONS, INIT], [UNL, L0, L1, EXP]):
+        stripe, _ = aged("K")
+        stripe.nodes[1].opmode, stripe.nodes[1].lmode = opmode, lmode
+        equal(stripe.tick(), ACCEPTED)
+        equal(ages(stripe), [[2], [], [2], []])
+
+
+def test_nothing_due_after_a_rebuild():
+    stripe, got = aged("K x64, L 2 x4, P 2, W 2 x4, T 2 x4, U 2 x4, K x64")
+    equal(got, [[], [], [], []])
+    equal(due_nodes(stripe), [])
+
+
+def entry_ages(stripe):
+    return {(j, e.id): e.age for j, node in stripe.nodes.items() for e in node.entries}
+
+
+def ticks_recent(before, stripe, ticks):
+    """Of each entry, the ticks that it was recent at, up to 255: those before, and the ticks given."""
+    entries = [(j, e) for j, node in stripe.nodes.items() for e in node.entries]
+    return {(j, e.id): min(255, before.get((j, e.id), 0) + ticks * e.recent) for j, e in entries}
+
+
+def oldest_asked(stripe, call):
+    """The oldest recent age at the node that a due test asks, unless it is INIT."""
+    if call is None or call.name != "due" or stripe.due(*call.arguments).number != 0:
+        return None
+    node = stripe.nodes[call.arguments[0]]
+    return max((e.age for e in node.entries if e.recent and node.opmode != INIT), default=None)
+
+
+def test_ages_along_lists():
+    """An age is the number of ticks that its entry was recent at. Nodes are asked at the limit, before it and at 255."""
+    asked = Counter()
+    for seed in range(20):
+        rng = random.Random(seed)
+        author = lists.stripe_author(rng, lists.random_sizes(rng))
+        expected = {}
+        for line in author.lines(1500):
+            expected = ticks_recent(expected, author.stripe, line.split(b"\n").count(b"K"))
+            equal(entry_ages(author.stripe), expected)
+            asked[oldest_asked(author.stripe, read_call(line))] += 1
+    for age in [63, 64, 255]:
+        must(asked[age] > 3, f"asked at {age} only {asked[age]} times")
 
 
 # ------------------------------------- answers that short lists don't reach
@@ -229,6 +316,7 @@ UNREADABLE = [
     *[b"r 1", b"X 1", b"1 R", b"R +1", b"R -1", b"R 0x1", b"R 1.0", b"R 1_0", b"R one", b"Z 1", b"Z 4"],
     *[b"S 1 1", b"S 1 01", b"S 1 1 1", b"S 1 1 001", b"S 1 1 0101", b"S 1 1 0a", b"S 1 1 0G"],
     *[b"S 1 1 01 ", b"S 1 1  01", b"S 1 1 -1", b"N 1", b"N 1 1", b"A 1", b"A 1 3 3", b"L", b"L 1 1"],
+    *[b"K", b"K 1", b"k"],
 ]
 
 OUT_OF_RANGE = [
@@ -244,6 +332,15 @@ def test_lines_of_shelfrun():
             equal(list(shelfrun.run([line])), [f"1 - {number} -"])
     equal(list(shelfrun.run([b"R 1", b"R 01", b"R " + b"0" * 10000 + b"2"]))[2], "3 - 0 00")
     equal(list(shelfrun.run([])), [])
+
+
+def test_lines_of_ticks():
+    """A tick is the one byte K; nothing that is almost one ages anything."""
+    for line in [b"K ", b" K", b"K 1", b"K K", b"KK", b"k", b"K\r", b"K\0", b"\0K"]:
+        swapped, almost = striperun.run([b"2 4 1 1 2", b"S 1 1 01", line])
+        equal(almost, swapped.replace("0 - |", "1 - |"))
+    swapped, ticked = striperun.run([b"2 4 1 1 2", b"S 1 1 01", b"K"])
+    equal(ticked, swapped.replace(".R.0", ".R.1"))
 
 
 # ------------------------------------------------------------ sets of pick
@@ -368,18 +465,23 @@ VOLUME_ANSWERS = {
         *[b"", b"0", b"0 ", b"R 1", b" 0 R 1", b"0  R 1", b"-0 R 1", b"x R 1", b"0 0 R 1", b"3 r 1"],
         *[b"0 RB 0", b"0 ? 0", b"?", b"? ", b"? 0 0", b"C 1", b"N 1 00", b"CC", b"CC 1 1"],
         *[b"0 C 1", b"0 N 1 00", b"3 N 1 00", b"0 V 00", b"0 M", b"0 J 00"],
+        *[b"K", b"K 0", b"0 K ", b"0 K 1", b"0 k", b"0 KK", b"0K"],
         *[b"0 S 1 1 0102", b"3 S 1 1 0102", b"3 S 9 9 0102"],
         *[b"SB 1 0", b"SB 1 0 0102", b"SB 1 6 0102", b"SB 9 6 0102"],
         *[b"NC 1", b"NC 1 00", b"NC 1 0102", b"NC 1 01020304", b"NC 0 0102", b"NC 5 01020304"],
     ],
     "2": [
         *[b"3 R 1", b"3 S 1 1 01", b"3 Z 1", b"3 L 9", b"18446744073709551616 R 1"],
+        *[b"3 K", b"18446744073709551616 K"],
         *[b"2 L 9", b"2 Z 5", b"2 S 9 1 01", b"? 3", b"? 4294967296", b"CC 0", b"CC 3"],
         *[b"RB 6", b"RB 7", b"RB 18446744073709551616"],
         *[b"SB 1 6 01", b"SB 9 0 01", b"SB 9 6 01", b"SB 0 0 01"],
         *[b"NC 0 010203", b"NC 5 010203", b"NC 4294967297 010203"],
     ],
-    "0": [b"2 R 1", b"02 R 01", b"RB 5", b"RB 005", b"? 2", b"2 Z 4", b"CC 2", b"NC 4 010203", b"SB 2 5 01"],
+    "0": [
+        *[b"2 R 1", b"02 R 01", b"RB 5", b"RB 005", b"? 2", b"2 Z 4", b"CC 2", b"NC 4 010203", b"SB 2 5 01"],
+        *[b"2 K", b"02 K"],
+    ],
 }
 
 
@@ -389,6 +491,12 @@ def test_lines_of_volumerun():
             (got,) = takenout.run([b"3 2 4 1 1 2", line])
             equal((line, got.split(" ")[0]), (line, number))
             must(number == "0" or got == f"{number} -", f"{line} prints {got}")
+
+
+def test_ticks_of_one_stripe():
+    """Each stripe has a recent entry; only stripe 1 comes due."""
+    calls = "3 2 4 1 1 2, 0 S 1 1 01, 1 S 1 1 01, 2 S 1 1 01, CC 1, 1 K x64, 0 Z 1, 1 Z 1, 2 Z 1"
+    equal([*takenout.run(spelled_out(calls))][-4:], ["0 -", "0 no", "0 due", "0 no"])
 
 
 def test_lost_cards():
@@ -419,7 +527,8 @@ def test_stripes_taken_out():
         for line, shown in zip(lines[1:], takenout.run(lines), strict=True):
             seen[shown] += 1
             seen[line[:2]] += shown == "0 -"
-    for what, floor in [("0 rebuilt", 100), (b"CC", 40), (b"NC", 40)]:
+            seen[line[-2:]] += shown == "0 -"
+    for what, floor in [("0 rebuilt", 100), (b"CC", 40), (b"NC", 40), (b" K", 500)]:
         must(seen[what] > floor, f"{what} occurs {seen[what]} times")
 
 

@@ -1,9 +1,10 @@
 """The machine of document 01: one stripe, its writers and its rebuild.
 
-A Stripe has the node records, the client records and three tables: blocks,
-spare and differences. Each call is one method; it gives an Answer and leaves
-the records and tables as document 01 says. The tests of a call stand in the
-order of their numbers, so that the lowest applicable number wins.
+Ages are counted in ticks, by request C-12 of document 02. A Stripe has the
+node records, the client records and three tables: blocks, spare and
+differences. Each call is one method; it gives an Answer and leaves the records
+and tables as document 01 says. The tests of a call stand in the order of their
+numbers, so that the lowest applicable number wins.
 """
 
 import dataclasses
@@ -55,7 +56,7 @@ class WriteId(NamedTuple):
 class Entry:
     id: WriteId
     recent: bool = True  # otherwise old
-    age: int = 0
+    age: int = 0  # in ticks
 
     MAX_AGE = 255
 
@@ -105,10 +106,13 @@ class Node:
         return len(self.entries) == self.MAX_ENTRIES
 
     def enter(self, id):
-        """An entry's age rises by 1, up to 255, at each later swap or add."""
-        for e in self.entries:
-            e.age = min(e.age + 1, Entry.MAX_AGE)
         self.entries.append(Entry(id))
+
+    def tick(self):
+        """The age of each recent entry rises by 1, up to 255; old ones keep theirs."""
+        for e in self.entries:
+            if e.recent:
+                e.age = min(e.age + 1, Entry.MAX_AGE)
 
     def discard(self, moved):
         """Discards old entries whose ids are in the moved list."""
@@ -349,6 +353,12 @@ class Stripe:
         return ACCEPTED
 
     # --------------------------------------------------------------- ages
+
+    def tick(self):
+        """A tick of every node, whatever its opmode and lmode; ages only change."""
+        for node in self.nodes.values():
+            node.tick()
+        return ACCEPTED
 
     def due(self, j):
         """Whether node j is due; nothing changes."""

@@ -8,7 +8,8 @@ of its nodes among them. After each call
   - the answer is the one that the stripes alone gave,
   - the volume's stripes are in the same states as those alone, so that the
     call changed nothing of the others,
-  - demand 3 holds of each stripe's calls (guarantee.py).
+  - demand 3 holds of each stripe's calls, and a tick changes ages only
+    (guarantee.py).
 
 A call that names a stripe, block or card that is not there, or gives a card's
 failure bytes of another length, is in no stripe's list.
@@ -25,7 +26,7 @@ from itertools import cycle, islice
 import guarantee
 import volumerun
 from answers import Answer
-from script import Call, answer_of, lines_of, values_of
+from script import Call, lines_of, values_of
 from striperun import new_stripe
 from volume import Volume
 
@@ -123,9 +124,7 @@ class Witness:
         return [self.answer_alone(s, call) for s, call in calls.items()]
 
     def answer_alone(self, s, call):
-        answer = answer_of(self.alone[s], call)
-        guarantee.follow(self.histories[s], call, answer, self.alone[s])
-        return answer
+        return guarantee.followed(self.histories[s], call, self.alone[s])
 
     def answer_of_no_stripe(self, call):
         if call is not None and call.name == "look":

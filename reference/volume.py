@@ -3,7 +3,8 @@
 One run of block numbers, from 0, over stripes of equal sizes and t_d, counted
 from 0. Each card has one node of each stripe. A call is one of the whole
 volume (a stop, a card's failure, a read or a swap of a block), or a stripe's
-own call on one stripe. 1 is tested before 2, then come the stripe's own tests.
+own call, such as a tick, on one stripe. 1 is tested before 2, then come the
+stripe's own tests.
 """
 
 from typing import NamedTuple

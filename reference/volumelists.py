@@ -101,12 +101,13 @@ class VolumeAuthor:
         calls = [
             on_stripe(self.odd_stripe(), author.arbitrary_call()),
             on_stripe(self.odd_stripe(), text("swap", self.odd_client(), 1, author.odd_value())),
+            on_stripe(self.odd_stripe(), text("tick")),
             volume_text("read", self.odd_block()),
             volume_text("swap", self.odd_client(), self.odd_block(), author.odd_value()),
             volume_text("stop", self.odd_client()),
             volume_text("fail", self.odd_card(), self.odd_bytes()),
         ]
-        return self.rng.choices(calls, [3, 3, 3, 3, 1, 1])[0]
+        return self.rng.choices(calls, [3, 3, 1, 3, 3, 1, 1])[0]
 
     def plausible_call(self):
         """What a stripe's author writes; now and then another stripe's."""

@@ -118,6 +118,9 @@ ODD_LINES = [
     b"L 257",
     b"Z 1",
     b"Z 9",
+    b"K",
+    b"K 1",
+    b"k",
 ]
 ODD_INPUTS = [
     b"",
@@ -127,6 +130,7 @@ ODD_INPUTS = [
     b"R 1\nR",
     b"\n\nR 1\n\n",
     b"R 1\r\nR 1\r\n",
+    b"S 1 1 01\n" + b"K\n" * 300 + b"Z 1\nR 1",
     b"\0",
     bytes(range(256)) * 40,
 ]

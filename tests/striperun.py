@@ -3,10 +3,10 @@
     striperun.py PROGRAM SEED
 
 Plays random lists of calls for each of the sizes below, lists with many
-damaged lines, inputs that are odd as a whole, and a list in which a write
-becomes so old that its nodes are due. Prints how many calls of
-each kind were accepted, how often each answer was given and how many rebuilds
-were finished; stops at the first difference with an error exit.
+damaged lines, inputs that are odd as a whole, and lists in which nodes come due
+by ticks. Prints how many calls of each kind were accepted, how often each
+answer was given and how many rebuilds were finished; stops at the first
+difference with an error exit.
 """
 
 import itertools
@@ -17,7 +17,7 @@ from collections import Counter
 from against import compared, in_order, pool
 from firstlines import BAD_SIZES, GOOD_SIZES
 from lists import Author, stripe_author
-from script import FORMS
+from script import FORMS, spelled_out
 from stripe import Sizes
 from striperun import new_stripe, run
 
@@ -25,10 +25,10 @@ PROGRAM, SEED = sys.argv[1], int(sys.argv[2])
 
 NODES = [(2, 3), (2, 4), (3, 5), (4, 7), (12, 18)]
 LENGTHS = [1, 3, 64]
-CALLS = 4000
+CALLS = 4600
 DAMAGED_CALLS = 500
 
-SCRIPT = b"S 1 1 0102\nA 1 3\nL 2\nR 1\nZ 1\nQ 2\nbogus"
+SCRIPT = b"S 1 1 0102\nA 1 3\nL 2\nR 1\nK\nZ 1\nQ 2\nbogus"
 
 MEGABYTE = 2**20
 ODD_INPUTS = [
@@ -43,8 +43,36 @@ ODD_INPUTS = [
     b"2 4 2 1 2\nR 1\r\nR 1\0\nR " + b"0" * MEGABYTE + b"1\nR " + b"1" * MEGABYTE + b"\nR 1",
     b"2 4 2 1 2\nS 1 1 " + b"AB" * MEGABYTE + b"\nS 1 1 ABCD\nN 1 " + b"00" * MEGABYTE,
     b"2 4 2 1 2\n" + b"S" * MEGABYTE + b"\n" + b" " * MEGABYTE + b"\nS 1 1 AB\nS 1 1 ABCDEF\nS 1 1 \nS 1 1 ABC\nS 1 1 abcd",
+    b"2 4 2 1 2\nS 1 1 ABCD\nK\nK 1\nK \n K\nk\nKK\nK K\nK 0102\nK\r\nK\0\n\0K\nK\tK\n" + b"K" * MEGABYTE + b"\nK",
     bytes(range(256)) * 40,
     b"2 4 2 1 2\n" + bytes(range(256)) * 40,
+]
+
+# Lists of ticks, in short, on a stripe of k=2, n=4, B=1, t_d=1, m=2. Each node is asked, and two that there are not.
+ASK = "Z 0, Z 1, Z 2, Z 3, Z 4, Z 5"
+FRIDAY = "S 1 1 11, A 1 3, C 1"
+DONE = "S 1 1 11, A 1 3, A 1 4"
+LATER = "S 2 1 22, A 2 3, A 2 4"
+SEVEN_LATER = ", ".join([LATER] * 7)
+REBUILD = "L 2 x4, P 2, W 2 x4, T 2 x4, U 2 x4"
+TICKS = [
+    # A controller stops after its swap and an add: 63 ticks, the 64th, and on past 255.
+    f"K, {FRIDAY}, {ASK}, K x63, {ASK}, K, {ASK}, K x190, {ASK}, K, {ASK}, K x9, {ASK}, {REBUILD}, {ASK}, K x64, {ASK}",
+    # It stops after its swap alone, and after all its adds; with entries of many ages.
+    f"S 1 1 11, C 1, K x64, {ASK}",
+    f"{DONE}, C 1, K x64, {ASK}",
+    f"S 1 1 11, K x30, S 2 1 22, D 2, K x33, S 2 2 33, A 2 3, K, {ASK}, K x62, {ASK}, K, {ASK}, K x200",
+    # Later swaps and adds age nothing; client 2 sweeps after every seventh write.
+    f"{DONE}, K x63, " + f"{SEVEN_LATER}, G 2 x8, {ASK}, " * 9 + f"K, {ASK}",
+    # Entries marked old keep their ages: node by node, beside others that are recent, due or not, and at 255.
+    f"{DONE}, K x63, " + f"G 1, K, {ASK}, " * 8 + f"K x9, {ASK}",
+    f"{DONE}, K x63, S 2 1 22, A 2 3, G 1 x8, {ASK}, K x63, {ASK}, K, {ASK}, K x192, {ASK}, G 1 x2, K, {ASK}",
+    f"{DONE}, K x256, G 1 x7, K, {ASK}, G 1, K, {ASK}",
+    # Nodes that are locked, weakened, expired, RECONS or INIT, and then rebuilt.
+    f"{DONE}, K x60, L 2, K, L 2 x3, K, O 2, K, I 2, {ASK}, K, {ASK}, I 2, Q 2, K, {ASK}",
+    f"{DONE}, K x60, L 2 x4, P 2, W 2, K, W 2 x3, K x2, {ASK}, K, {ASK}, Q 2, K, C 2, K, {ASK}",
+    f"{DONE}, K x60, N 3 99, K x4, {ASK}, N 1 99, K, {ASK}, {REBUILD}, {ASK}, K x64, {ASK}",
+    f"{DONE}, K x64, L 2 x4, P 2, W 2 x4, " + f"T 2, K, {ASK}, " * 4 + f"U 2 x4, K, {ASK}, {LATER}, K x64, {ASK}",
 ]
 
 
@@ -62,22 +90,6 @@ def script_of(sizes, lines):
 
 def random_script(seed, sizes):
     return script_of(sizes, stripe_author(random.Random(seed), sizes).lines(CALLS))
-
-
-def ageing_script():
-    """Client 1's write stays recent at nodes 1, 3 and 4, and ages there as client 2 writes; 63 later writes, then the 64th node by node.
-
-    Client 2 sweeps after every seventh write; at last client 1 sweeps, and its write is recent no more.
-    """
-    write = [b"S 2 1 22", b"A 2 3", b"A 2 4"]
-    ask = [b"Z %d" % j for j in range(6)]
-    lines = [b"S 1 1 11", b"A 1 3", b"A 1 4"] + ask
-    for _ in range(9):
-        lines += write * 7 + [b"G 2"] * 8
-    lines += ask
-    for line in write:
-        lines += [line] + ask
-    return script_of(Sizes(2, 4, 1, 1, 2), lines + [b"G 1"] * 8 + ask + [b"N 2 00"] + ask)
 
 
 def damaged_script(seed, sizes):
@@ -114,8 +126,8 @@ def main():
     for input in ODD_INPUTS:
         whole += counts(input)
     show("odd inputs", whole)
-    seen = counts(ageing_script())
-    show("a write that ages", seen)
+    seen = sum((counts(script_of(Sizes(2, 4, 1, 1, 2), spelled_out(calls))) for calls in TICKS), Counter())
+    show("ticks", seen)
     whole += seen
     with pool() as workers:
         for name, make in [("damaged lists", damaged_script), ("lists", random_script)]:

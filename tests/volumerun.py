@@ -5,11 +5,12 @@
 
 On the way the second implementation makes each stripe's calls once more on a
 stripe of its own (reference/takenout.py). Plays inputs that are odd as a
-whole, numbers and lengths at their bounds, volumes as large as the program
-has memory for and larger ones, volumes that lose a card, random lists, and
-lists with many damaged lines. Prints how many calls of each kind were
-accepted, how often each answer was given and how many rebuilds were finished;
-stops at the first difference with an error exit, or if too little happened.
+whole, numbers and lengths at their bounds, ticks of one stripe, volumes as
+large as the program has memory for and larger ones, volumes that lose a card,
+random lists, and lists with many damaged lines. Prints how many calls of each
+kind were accepted, how often each answer was given and how many rebuilds were
+finished; stops at the first difference with an error exit, or if too little
+happened.
 """
 
 import itertools
@@ -24,22 +25,22 @@ from script import FORMS, VOLUME_FORMS, read_volume_call
 from stripe import Sizes
 from takenout import run
 from volume import VolumeSizes
-from volumelists import VolumeAuthor, first_line, lost_card, on_stripe, volume_text
+from volumelists import VolumeAuthor, block_at, first_line, lost_card, on_stripe, volume_text
 from volumerun import new_volume, read_sizes
 
 PROGRAM, SEED = sys.argv[1], int(sys.argv[2])
 
 NODES = [(2, 3), (2, 4), (3, 5), (4, 7), (6, 12), (12, 18)]
-CALLS = 3000
+CALLS = 3400
 DAMAGED_CALLS = 500
 
 KINDS = [letter.decode() for letter in VOLUME_FORMS] + [name for name, _, _ in FORMS.values()]
 # What has to happen, in all lists together. Several: lists in which several clients finish rebuilds of several stripes.
-FLOORS = {"calls": 100_000, "rebuilds": 1000, "several": 50, "NC": 500, "CC": 800}
+FLOORS = {"calls": 100_000, "rebuilds": 1000, "several": 50, "NC": 500, "CC": 800, "tick": 25_000}
 
 SIZES = b"3 2 4 2 1 2"
 LAST_STRIPE, LAST_BLOCK = 2, 5
-SCRIPT = b"SB 1 1 0102\n0 A 1 3\n0 L 2\nRB 1\n? 0\n0 Z 1\nCC 1\nbogus"
+SCRIPT = b"SB 1 1 0102\n0 A 1 3\n0 L 2\nRB 1\n0 K\n? 0\n0 Z 1\nCC 1\nbogus"
 
 GOOD_COUNTS = [b"1", b"2", b"1024", b"0009", b"0" * 5000 + b"3"]
 BAD_COUNTS = [
@@ -92,6 +93,8 @@ ODD_LINES = [
     *[b"", b" ", b"0", b"0 ", b" 0 R 1", b"0  R 1", b"0 R 1 ", b"0 R  1", b"0 R", b"0 R 1 1", b"0\tR 1", b"0,R 1"],
     *[b"0 R 1\r", b"0 R 1\0", b"\x000 R 1", b"\xef\xbb\xbf0 R 1", b"\xb2 R 1", b"/ R 1", b": R 1", b"-0 R 1"],
     *[b"+0 R 1", b"0x0 R 1", b"0.0 R 1", b"zero R 1", b"0R 1", b"0 r 1", b"0 0 R 1", b"00 R 1"],
+    *[b"0 K", b"00 K", b"2 K", b"3 K", b"0 K ", b"0  K", b" 0 K", b"0 K 1", b"0 K 0102", b"0 k", b"0 KK", b"0K"],
+    *[b"K 0", b"KK", b"K 0 0102", b"? K", b"CC K", b"0 K\r", b"0 K\0", b"0 0 K", b"-0 K", b"4294967296 K"],
     # striperun's lines, and those that are none after a stripe's number
     *[b"R 1", b"S 1 1 0102", b"A 1 3", b"L 1", b"C 1", b"N 1 0102", b"Z 1", b"Q 1", b"M", b"V 0102", b"J 00", b"K"],
     *[b"0 C 1", b"0 N 1 0102", b"0 M", b"0 V 0102", b"0 J 00", b"3 C 1", b"3 N 1 0102", b"0 C 0", b"0 N 5 0102"],
@@ -172,6 +175,7 @@ def bounds_script(seed, sizes):
     for s in around(0, stripes - 1):
         calls = [text("swap", c, k, value) for value in lengths_around(rng, B) for c in (1, m + 1)]
         calls += [text("read", 1), text("due", n), text("due", n + 1), text("lock", 1), text("lock", m + 1)]
+        calls += [text("tick")]
         lines += [on_stripe(s, call) for call in calls] + [volume_text("look", s)]
     lines += [volume_text("stop", c) for c in around(1, m)]
     for card in around(1, n):
@@ -179,6 +183,19 @@ def bounds_script(seed, sizes):
         lines += [volume_text("fail", card, value) for value in values]
     shown = {*range(min(stripes, 9)), *range(max(0, stripes - 9), stripes)}
     return script_of(sizes, lines + [volume_text("look", s) for s in sorted(shown)])
+
+
+def ticks_script(seed, sizes):
+    """Some stripes have a write whose client stops; one of them gets ticks, and comes due alone."""
+    rng = random.Random(seed)
+    stripes = rng.sample(range(sizes.stripes), min(sizes.stripes, 5))
+    swaps = [volume_text("swap", 1, block_at(sizes, s, 1), rng.randbytes(sizes.stripe.B)) for s in stripes]
+    adds = [on_stripe(s, text("add", 1, sizes.stripe.n)) for s in stripes]
+    asked = [on_stripe(s, text("due", j)) for s in stripes for j in (1, sizes.stripe.n)]
+    asked += [volume_text("look", s) for s in stripes]
+    tick = on_stripe(rng.choice(stripes), text("tick"))
+    ticks = [tick] * 63 + asked + [tick] + asked + [tick] * 192 + asked
+    return script_of(sizes, [*swaps, *adds, volume_text("stop", 1), *ticks])
 
 
 def lost_card_script(seed, sizes):
@@ -256,6 +273,7 @@ def jobs():
     large = [read_sizes(first) for first in FITTING]
     return {
         "bounds": (bounds_script, [*large, *all_sizes()]),
+        "ticks": (ticks_script, [*large, *all_sizes()]),
         "lost cards": (lost_card_script, [*large, *all_sizes()]),
         "damaged lists": (damaged_script, all_sizes()),
         "lists": (random_script, all_sizes()),

@@ -6,6 +6,7 @@ mod turns; // turns.rt: which call is next
 use records::Sizes;
 
 // Writes are those of client 1 at position 1, with their adds, and swept after each eight. Card is a card's failure, and then a rebuild of each stripe.
+// Ticks and locks are on nodes with 16 entries each.
 enum Work {
     Dues,
     Swaps,
@@ -13,6 +14,8 @@ enum Work {
     Rebuild,
     Writes,
     Card,
+    Ticks,
+    Locks,
 }
 
 // Calls, one after another: `left` are left. They go round and round: the next is at place `at` of the places 0 to `last` of a round, and at place `pick` it

@@ -6,6 +6,7 @@ use crate::runs::VOLUME_NODES;
 use crate::runs::run;
 use crate::runs::run_all;
 use crate::runs::run_one;
+use entries::Entries;
 use entries::Epoch;
 use entries::Previous;
 use entries::WriteId;
@@ -51,6 +52,26 @@ fn failed() -> Nodes {
     nodes
 }
 
+// A node with as many entries as it may have, all recent.
+fn full_node() -> NodeRecord {
+    let mut node = NodeRecord::fresh();
+    for i in 0..Entries::LIMIT {
+        let id = WriteId {
+            client: 1,
+            position: 1,
+            number: WriteNumber(i as u32),
+        };
+        node = node.swap(id).node;
+    }
+    node
+}
+
+fn full() -> Nodes {
+    let node = full_node();
+    let items = [node; Sizes::NODES];
+    Nodes { items }
+}
+
 impl Work {
     fn numbered(number: u8) -> Self {
         match number {
@@ -59,13 +80,17 @@ impl Work {
             2 => Work::Adds,
             3 => Work::Rebuild,
             4 => Work::Writes,
-            _ => Work::Card,
+            5 => Work::Card,
+            6 => Work::Ticks,
+            _ => Work::Locks,
         }
     }
 
     fn nodes(self) -> Nodes {
         match self {
             Work::Rebuild => failed(),
+            Work::Ticks => full(),
+            Work::Locks => full(),
             _ => fresh(),
         }
     }
@@ -86,6 +111,8 @@ impl Work {
             Work::Rebuild => 72,
             Work::Writes => 91,
             Work::Card => 72,
+            Work::Ticks => 0,
+            Work::Locks => 17,
         }
     }
 
@@ -130,8 +157,9 @@ impl Work {
 }
 
 // So many calls of the work of that number: whether a node is due; swaps at node 1, 8 at most; adds at nodes 13 to 18, 48 at most; the 73 calls of a rebuild
-// of nodes 1 to 6, which are 18 locks, a pick, 18 writes, 18 settles and 18 unlocks; or rounds of 8 swaps, their 48 adds and 36 sweeps. The number of the
-// first refusal, or 0. By the entry points of one stripe, where the stripe's number counts for nothing.
+// of nodes 1 to 6, which are 18 locks, a pick, 18 writes, 18 settles and 18 unlocks; rounds of 8 swaps, their 48 adds and 36 sweeps; or, on nodes with 16
+// entries each, ticks, or locks, 18 at most. The number of the first refusal, or 0. By the entry points of one stripe, where the stripe's number counts for
+// nothing.
 #[no_mangle]
 pub extern "C" fn callbench_calls(
     work: u8,

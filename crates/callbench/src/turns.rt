@@ -78,6 +78,8 @@ impl Run {
             Work::Rebuild => StepCall::By(self.rebuilding(), 1),
             Work::Writes => self.writing(),
             Work::Card => self.recovering(),
+            Work::Ticks => StepCall::Tick,
+            Work::Locks => StepCall::By(ClientCall::Lock, 1),
         }
     }
 

@@ -11,13 +11,14 @@ use Rattle.records.specs.Client.{Client, nextNode}
 use Rattle.calls.specs.declared.Call.{Call}
 use Rattle.calls.specs.declared.Call.the-variants.{Read, Pick, Step}
 use Rattle.calls.specs.declared.StepCall.{StepCall}
-use Rattle.calls.specs.declared.StepCall.the-variants.{Swap, Fail, Due, At, By}
+use Rattle.calls.specs.declared.StepCall.the-variants.{Swap, Fail, Due, Tick, At, By}
 
 -- the bytes of a swap or a failure are beside the call
 abbrev pub stepOf : StepCall → List ℕ → Machine.Call
 stepOf (Swap c i) value = Machine.Swap c i value
 stepOf (Fail j) value = Machine.Fail j value
 stepOf (Due j) value = Machine.Due j
+stepOf Tick value = Machine.Tick
 stepOf (At op c j) value = Machine.At op c j
 stepOf (By op c) value = Machine.By op c
 
@@ -31,6 +32,7 @@ abbrev pub caller : StepCall → ℕ
 caller (Swap c i) = c
 caller (Fail j) = 0
 caller (Due j) = 0
+caller Tick = 0
 caller (At op c j) = c
 caller (By op c) = c
 
@@ -47,11 +49,12 @@ targetBy Settle z x = nextNode (x .rebuild)
 targetBy Unlock z x = nextNode (x .rebuild)
 targetBy Quit z x = nextNode (x .rebuild)
 
--- the node that a call is at, by the record of its client
+-- the node that a call is at, by the record of its client; a tick is at none
 abbrev pub target : Sizes → StepCall → Client → ℕ
 target z (Swap c i) x = i
 target z (Fail j) x = j
 target z (Due j) x = j
+target z Tick x = 0
 target z (At op c j) x = j
 target z (By op c) x = targetBy op z x
 
@@ -72,5 +75,6 @@ abbrev pub looksAtAll : StepCall → Bool
 looksAtAll (Swap c i) = false
 looksAtAll (Fail j) = false
 looksAtAll (Due j) = false
+looksAtAll Tick = true
 looksAtAll (At op c j) = false
 looksAtAll (By op c) = looksBy op

@@ -61,6 +61,7 @@ impl StepCall {
             StepCall::Swap(c, _) => c,
             StepCall::Fail(_) => 0,
             StepCall::Due(_) => 0,
+            StepCall::Tick => 0,
             StepCall::At(_, c, _) => c,
             StepCall::By(_, c) => c,
         }
@@ -74,6 +75,7 @@ impl StepCall {
             StepCall::Swap(_, i) => i as usize,
             StepCall::Fail(j) => j as usize,
             StepCall::Due(j) => j as usize,
+            StepCall::Tick => 0,
             StepCall::At(_, _, j) => j as usize,
             StepCall::By(op, _) => target_by(op, z, client),
         }
@@ -87,6 +89,7 @@ impl StepCall {
             StepCall::Swap(_, _) => false,
             StepCall::Fail(_) => false,
             StepCall::Due(_) => false,
+            StepCall::Tick => true,
             StepCall::At(_, _, _) => false,
             StepCall::By(op, _) => looks_by(op),
         }

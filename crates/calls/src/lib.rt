@@ -10,8 +10,8 @@ use records::NodeCall;
 use records::NodeRecord;
 use records::Refusal;
 
-// The calls, by what they step: a read and a pick apart, every other call steps the record of one node and that of its client. The numbers are a
-// client, then a position or a node; the bytes of a swap or a failure are beside the call.
+// The calls, by what they step: a read and a pick apart, every other call steps the record of one node and that of its client, but a tick, which is of no
+// client and changes all nodes. The numbers are a client, then a position or a node; the bytes of a swap or a failure are beside the call.
 pub enum Call {
     Read(u8),
     Pick(u8),
@@ -22,6 +22,7 @@ pub enum StepCall {
     Swap(u8, u8),
     Fail(u8),
     Due(u8),
+    Tick,
     At(NodeCall, u8, u8),
     By(ClientCall, u8),
 }

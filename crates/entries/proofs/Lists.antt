@@ -24,8 +24,8 @@ use Rattle.entries.specs.declared.node_entries.EntryTest.{EntryTest}
 use Rattle.entries.specs.declared.node_entries.EntryTest.the-variants as EntryTest
 use Rattle.entries.specs.declared.node_entries.EntryChange.{EntryChange}
 use Rattle.entries.specs.declared.node_entries.EntryChange.the-variants as EntryChange
-use Rattle.entries.specs.Entries.{Entry, isRecent, isIn, isListed, isRecentIn, isOldIn, lastRecent, lastRecentAfter, aged, discard, markOld, someDue, ageLimit, idWithin, idsWithin, entriesWithin}
-use Rattle.entries.specs.Lists.{idPasses, someIdPasses, passes, somePasses, isOutside, olderEntry, isKept, offered, changed}
+use Rattle.entries.specs.Entries.{Entry, isRecent, isIn, isListed, isRecentIn, isOldIn, lastRecent, lastRecentAfter, agedEntry, aged, discard, markOld, someDue, ageLimit, idWithin, idsWithin, entriesWithin}
+use Rattle.entries.specs.Lists.{idPasses, someIdPasses, passes, somePasses, isOutside, isKept, offered, changed}
 use Rattle.entries.specs.View.{blankId, idsOf, entryOf, blankEntry, entriesOf}
 
 pub listOf-more : {A : Type 0} (i : ℕ) (at : ℕ → A) → listOf (i + 1) at ≡ listOf i at ++ (at i ∷ [])
@@ -200,14 +200,14 @@ module _ {c : EntryChange} {ids : List WriteId} {at : ℕ → Entry} {out : Entr
     pub change-end : n ≤ i → entriesOf out ≡ changed c ids (listOf n at)
     change-end h = let e : i ≡ n = omega arith in rw e at (q .is)
 
--- ---- a loop that ages the entries in their places
+-- ---- a tick, which ages the entries in their places
 
-aged-last : (es : List Entry) (e : Entry) → aged (es ++ (e ∷ [])) ≡ aged es ++ (olderEntry e ∷ [])
+aged-last : (es : List Entry) (e : Entry) → aged (es ++ (e ∷ [])) ≡ aged es ++ (agedEntry e ∷ [])
 unfolding aged
 aged-last [] e = refl
-aged-last (x ∷ es) e = ap (λ l. olderEntry x ∷ l) (aged-last es e)
+aged-last (x ∷ es) e = ap (λ l. agedEntry x ∷ l) (aged-last es e)
 
--- the first i of n entries are older, the others as they were
+-- the first i of n entries are one tick later, the others as they were
 pub record Aged (old now : List Declared.Entry) (i n : ℕ) : Type 0 where
   pub within : i ≤ n
   pub room : n ≤ length now
@@ -220,13 +220,13 @@ module _ {old : List Declared.Entry} {n : ℕ} where
   age-start h = record { within = omega arith; room = h; is = refl; others = λ p l. refl }
 
   module _ {now : List Declared.Entry} {i : ℕ} (q : Aged old now i n) where
-    pub age-on : {r : Declared.Entry} → i < n → entryOf r ≡ olderEntry (entryOf (getD now i blankEntry)) → Aged old (set now i r) (i + 1) n
+    pub age-on : {r : Declared.Entry} → i < n → entryOf r ≡ agedEntry (entryOf (getD now i blankEntry)) → Aged old (set now i r) (i + 1) n
     age-on {r} h e = record {
       within = omega arith;
       room = omega (arith, length-set now i r, q .room);
       is =
           listOf-push entryOf now i r blankEntry (omega (arith, q .room))
-          ∙ ap₂ (λ l x. l ++ (x ∷ [])) (q .is) (e ∙ ap (λ x. olderEntry (entryOf x)) (q .others i (omega arith)))
+          ∙ ap₂ (λ l x. l ++ (x ∷ [])) (q .is) (e ∙ ap (λ x. agedEntry (entryOf x)) (q .others i (omega arith)))
           ∙ sym (ap aged (listOf-more i (λ p. entryOf (getD old p blankEntry))) ∙ aged-last (listOf i (λ p. entryOf (getD old p blankEntry))) (entryOf (getD old i blankEntry)));
       others = λ p l. getD-set-other now i p r blankEntry (λ z. omega arith) ∙ q .others p (omega arith);
     }

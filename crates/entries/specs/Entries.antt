@@ -1,4 +1,5 @@
 -- Document 01, "Records" and "Writing": a node's entries, each a write id marked recent or old, in order of arrival; the limits of ids and lists.
+-- Change request C-12: ages are counted in ticks.
 -- Assumes nothing.
 use mathlib.Core.Bool.{Bool, true, false, cond, _&&_, _||_, not}
 use mathlib.Core.List.{List, [], _∷_, _++_}
@@ -28,7 +29,7 @@ finishedLimit = 8
 abbrev pub writeLimit : ℕ
 writeLimit = 1000000
 
--- "rises by 1, up to 255"; "age 64 or more"
+-- "up to 255"; "age 64 or more"
 abbrev pub ageLimit : ℕ
 ageLimit = 255
 
@@ -76,20 +77,24 @@ abbrev pub previousRecent : Previous → List Entry → Bool
 previousRecent Nothing es = false
 previousRecent (Id x) es = isRecentIn x es
 
--- "An entry's age starts at 0 and rises by 1, up to 255, at each later swap or add accepted there"
+-- C-12: "A tick call adds 1 to the age of each recent entry .., up to 255". An old one keeps the age that it has
 abbrev pub older : Age → Age
 older a = record { 0 = cond (ltb (a .0) ageLimit) (a .0 + 1) (a .0) }
 
+abbrev pub agedEntry : Entry → Entry
+agedEntry e = record { id = e .id; mark = e .mark; age = cond (isRecent e) (older (e .age)) (e .age) }
+
 unfoldable pub aged : List Entry → List Entry
 aged [] = []
-aged (e ∷ es) = record { id = e .id; mark = e .mark; age = older (e .age) } ∷ aged es
+aged (e ∷ es) = agedEntry e ∷ aged es
 
--- "the id entered as recent"
+-- "the id entered as recent"; "An entry's age starts at 0"
 abbrev pub newEntry : WriteId → Entry
 newEntry x = record { id = x; mark = Recent; age = record { 0 = 0 } }
 
+-- C-12: "swaps and adds no longer age anything"
 abbrev pub enter : WriteId → List Entry → List Entry
-enter x es = aged es ++ (newEntry x ∷ [])
+enter x es = es ++ (newEntry x ∷ [])
 
 -- "discarding old entries whose ids are in the moved list"
 unfoldable pub discard : List WriteId → List Entry → List Entry

@@ -12,7 +12,7 @@ use Rattle.entries.specs.declared.node_entries.EntryTest.the-variants.{O
 use Rattle.entries.specs.declared.node_entries.EntryChange.{EntryChange}
 use Rattle.entries.specs.declared.node_entries.EntryChange.the-variants.{Mark, Discard}
 use Rattle.entries.specs.Entries.{Entry, ageLimit, dueAge, sameId, isRecent, isIn, isListed, isRecentIn, isOldIn}
-use Rattle.entries.specs.Entries.{older, discard, markOld, someDue, idWithin, idsWithin}
+use Rattle.entries.specs.Entries.{discard, markOld, someDue, idWithin, idsWithin}
 
 -- an id passes the test; some id of the list does
 abbrev pub idPasses : IdTest → WriteId → Bool
@@ -40,10 +40,7 @@ somePasses Due es = someDue es
 abbrev pub isOutside : ℕ → ℕ → Entry → Bool
 isOutside k m e = not (idWithin k m (e .id) && leb (e .age .0) ageLimit)
 
--- an entry one older; marked old if its id is in the list; whether it is kept when the ids of the list are discarded
-abbrev pub olderEntry : Entry → Entry
-olderEntry e = record { id = e .id; mark = e .mark; age = older (e .age) }
-
+-- an entry marked old if its id is in the list; whether it is kept when the ids of the list are discarded
 abbrev pub markedEntry : List WriteId → Entry → Entry
 markedEntry ids e = record { id = e .id; mark = cond (isIn (e .id) ids) Old (e .mark); age = e .age }
 

@@ -12,7 +12,7 @@ pub struct WriteNumber(pub u32);
 // A node's count of the rebuilds that it went through.
 pub struct Epoch(pub u32);
 
-// How many swaps and adds a node accepted after an entry.
+// How many ticks an entry has seen while it was recent, 255 at most.
 pub struct Age(pub u8);
 
 impl WriteNumber {

@@ -5,8 +5,8 @@ ghost use mathlib.Core.Path.{_≡_};
 ghost use Prim.Native.Nat.{_<_, _≤_};
 ghost use lib.Dec.{leb};
 ghost use lib.ListN.{length};
-ghost use Rattle.entries.specs.Entries.{entryLimit, finishedLimit, isRecent, isListed, isRecentIn, isOldIn, lastRecent, previousRecent, newEntry, aged, enter, discard, markOld, someDue, entriesWithin};
-ghost use Rattle.entries.specs.Lists.{passes, somePasses, isOutside, olderEntry, markedEntry, isKept, offered, changed};
+ghost use Rattle.entries.specs.Entries.{entryLimit, finishedLimit, isRecent, isListed, isRecentIn, isOldIn, lastRecent, previousRecent, newEntry, agedEntry, aged, enter, discard, markOld, someDue, entriesWithin};
+ghost use Rattle.entries.specs.Lists.{passes, somePasses, isOutside, markedEntry, isKept, offered, changed};
 ghost use Rattle.entries.specs.View.{idsOf, entryOf, entriesOf};
 use crate::Age;
 use crate::Entries;
@@ -84,9 +84,13 @@ impl Entry {
         !self.id().is_within(k, m)
     }
 
-    fn older(self) -> Self
-        ensures { λ r. ⌜ entryOf r ≡ olderEntry (entryOf self) ⌝ }
+    // One tick later: a recent entry is one older.
+    fn tick(self) -> Self
+        ensures { λ r. ⌜ entryOf r ≡ agedEntry (entryOf self) ⌝ }
     {
+        if !self.is_recent() {
+            return self;
+        }
         let age = self.age.0;
         let next = Age(if age < Age::LAST { age + 1 } else { age });
         let mut entry = self;
@@ -269,17 +273,17 @@ impl Entries {
         out
     }
 
-    // Every entry older, each in its place: a list built anew would be copied at each entry.
-    fn older(self) -> Self
+    // Every entry one tick later, each in its place: a list built anew would be copied at each entry.
+    pub fn tick(self) -> Self
         requires { ⌜ self .count ≤ entryLimit ⌝ }
-        ensures { λ r. ⌜ (r .count ≡ self .count) × (entriesOf r ≡ aged (entriesOf self)) ⌝ }
+        ensures { λ r. ⌜ entriesOf r ≡ aged (entriesOf self) ⌝ }
     {
         let n = self.count;
         let mut items = self.items;
         let mut i = 0;
         while i < n {
             let e = items[i];
-            items[i] = e.older();
+            items[i] = e.tick();
             i += 1;
         }
         Entries {
@@ -288,12 +292,12 @@ impl Entries {
         }
     }
 
-    // Every entry older, and the id entered as recent.
+    // The id entered as recent.
     pub fn enter(self, id: WriteId) -> Self
         requires { ⌜ self .count < entryLimit ⌝ }
         ensures { λ r. ⌜ entriesOf r ≡ enter id (entriesOf self) ⌝ }
     {
-        self.older().push(Entry::new(id))
+        self.push(Entry::new(id))
     }
 
     pub fn mark_old(self, ids: Ids) -> Self

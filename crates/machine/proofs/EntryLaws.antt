@@ -1,4 +1,4 @@
--- What entering, discarding and marking do to the tests of a list of entries. Assumes nothing.
+-- What entering, a tick, discarding and marking do to the tests of a list of entries. Assumes nothing.
 use mathlib.Core.Path.{_≡_, refl, sym, ap, ap₂, subst, _∙_}
 use mathlib.Core.Logic.{_⊎_, inl, inr}
 use mathlib.Core.Bool.{Bool, true, false, cond, _&&_, _||_, not, or-assoc}
@@ -63,18 +63,18 @@ module _ (x : WriteId) where
 
   ---- entering
   pub listed-enter : (y : WriteId) (es : List Entry) → isListed x (enter y es) ≡ (isListed x es || sameId y x)
-  unfolding isListed aged
+  unfolding isListed
   listed-enter y [] = or-false (sameId y x)
   listed-enter y (e ∷ es) = ap (λ t. sameId (e .id) x || t) (listed-enter y es) ∙ sym (or-assoc (sameId (e .id) x) (isListed x es) (sameId y x))
 
   pub recent-enter : (y : WriteId) (es : List Entry) → isRecentIn x (enter y es) ≡ (isRecentIn x es || sameId y x)
-  unfolding isRecentIn aged
+  unfolding isRecentIn
   recent-enter y [] = or-false (sameId y x)
   recent-enter y (e ∷ es) =
       ap (λ t. (isRecent e && sameId (e .id) x) || t) (recent-enter y es) ∙ sym (or-assoc (isRecent e && sameId (e .id) x) (isRecentIn x es) (sameId y x))
 
   pub old-enter : (y : WriteId) (es : List Entry) → isOldIn x (enter y es) ≡ isOldIn x es
-  unfolding isOldIn aged
+  unfolding isOldIn
   old-enter y [] = refl
   old-enter y (e ∷ es) = ap (λ t. (not (isRecent e) && sameId (e .id) x) || t) (old-enter y es)
 
@@ -82,6 +82,22 @@ module _ (x : WriteId) where
   unfolding isIn
   in-snoc y [] = or-false (sameId y x)
   in-snoc y (z ∷ l) = ap (λ t. sameId z x || t) (in-snoc y l) ∙ sym (or-assoc (sameId z x) (isIn x l) (sameId y x))
+
+  ---- a tick
+  pub listed-aged : (es : List Entry) → isListed x (aged es) ≡ isListed x es
+  unfolding isListed aged
+  listed-aged [] = refl
+  listed-aged (e ∷ es) = ap (λ t. sameId (e .id) x || t) (listed-aged es)
+
+  pub recent-aged : (es : List Entry) → isRecentIn x (aged es) ≡ isRecentIn x es
+  unfolding isRecentIn aged
+  recent-aged [] = refl
+  recent-aged (e ∷ es) = ap (λ t. (isRecent e && sameId (e .id) x) || t) (recent-aged es)
+
+  pub old-aged : (es : List Entry) → isOldIn x (aged es) ≡ isOldIn x es
+  unfolding isOldIn aged
+  old-aged [] = refl
+  old-aged (e ∷ es) = ap (λ t. (not (isRecent e) && sameId (e .id) x) || t) (old-aged es)
 
   ---- marking
   pub listed-mark : (l : List WriteId) (es : List Entry) → isListed x (markOld l es) ≡ isListed x es
@@ -142,12 +158,20 @@ module _ (x : WriteId) where
 
 ---- the last recent id
 last-after : (p : Previous) (y : WriteId) (es : List Entry) → lastRecentAfter p (enter y es) ≡ Id y
-unfolding lastRecentAfter aged
+unfolding lastRecentAfter
 last-after p y [] = refl
 last-after p y (e ∷ es) = last-after (cond (isRecent e) (Id (e .id)) p) y es
 
 pub last-enter : (y : WriteId) (es : List Entry) → lastRecent (enter y es) ≡ Id y
 last-enter y es = last-after Nothing y es
+
+aged-after : (p : Previous) (es : List Entry) → lastRecentAfter p (aged es) ≡ lastRecentAfter p es
+unfolding lastRecentAfter aged
+aged-after p [] = refl
+aged-after p (e ∷ es) = aged-after (cond (isRecent e) (Id (e .id)) p) es
+
+pub last-aged : (es : List Entry) → lastRecent (aged es) ≡ lastRecent es
+last-aged es = aged-after Nothing es
 
 discard-after : (l : List WriteId) (p : Previous) (es : List Entry) → lastRecentAfter p (discard l es) ≡ lastRecentAfter p es
 unfolding lastRecentAfter discard

@@ -90,3 +90,8 @@ module _ (z : Sizes) (h : Ledger Block) where
 
     pub whole-refused : (c : ℕ) (why : Refusal) → KeptWhole c (refused why (whole c s))
     whole-refused c why = subst (λ s. Kept z h x (refused why s)) (sym (put-whole-back c s)) (kept-refused x why s g f)
+
+    pub whole-guard : (c : ℕ) (b : Bool) (why : Refusal) (rest : Outcome Whole) → (b ≡ false → KeptWhole c rest) → KeptWhole c (guard b why (whole c s) rest)
+    unfolding guard
+    whole-guard c true why rest k = whole-refused c why
+    whole-guard c false why rest k = k refl

@@ -12,6 +12,7 @@ pub mod Phases
 pub mod Writing
 pub mod Rebuild
 pub mod Failure
+pub mod Aging
 pub mod Start
 -- records and tables seen as columns
 pub mod Bytes
@@ -34,6 +35,8 @@ pub mod KeptFailure
 pub mod KeptAging
 pub mod Refusals
 pub mod Outside
+-- C-12
+pub mod Ages
 -- lists of calls
 pub mod Told
 pub mod Rooted

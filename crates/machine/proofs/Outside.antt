@@ -14,7 +14,7 @@ use Rattle.machine.specs.Writing as Writing
 use Rattle.machine.specs.Rebuild as Rebuild
 use Rattle.machine.specs.Failure as Failure
 use Rattle.machine.specs.Aging as Aging
-use Rattle.machine.specs.Calls.{Call, Read, Pick, Swap, Fail, Due, At, By, step, stepAt, stepBy}
+use Rattle.machine.specs.Calls.{Call, Read, Pick, Swap, Fail, Due, Tick, At, By, step, stepAt, stepBy}
 use Rattle.machine.proofs.View.{refused-at, refused-on}
 
 module _ (z : Sizes) (s : Stripe) (e : sizesWithin z ≡ false) where
@@ -37,11 +37,12 @@ module _ (z : Sizes) (s : Stripe) (e : sizesWithin z ≡ false) where
   by-outside Quit c = sym (refused-on s OutOfLimits c (Rebuild.quit z c) (rw e))
 
   pub step-outside : (call : Call) → refused OutOfLimits s ≡ step z call s
-  unfolding step guard Writing.read Writing.swap Failure.fail Aging.due Rebuild.pick
+  unfolding step guard Writing.read Writing.swap Failure.fail Aging.due Aging.tick Rebuild.pick
   step-outside (Read i) = sym (refused-at s OutOfLimits i 0 (Writing.read z i) (rw e))
   step-outside (Pick c) = sym (refused-on s OutOfLimits c (Rebuild.pick z c) (rw e))
   step-outside (Swap c i value) = sym (refused-at s OutOfLimits i c (Writing.swap z c i value) (rw e))
   step-outside (Fail j value) = sym (refused-at s OutOfLimits j 0 (Failure.fail z j value) (rw e))
   step-outside (Due j) = sym (refused-at s OutOfLimits j 0 (Aging.due z j) (rw e))
+  step-outside Tick = sym (refused-on s OutOfLimits 0 (Aging.tick z) (rw e))
   step-outside (At op c j) = at-outside op c j
   step-outside (By op c) = by-outside op c

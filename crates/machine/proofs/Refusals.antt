@@ -23,7 +23,7 @@ use Rattle.machine.specs.Writing as Writing
 use Rattle.machine.specs.Rebuild as Rebuild
 use Rattle.machine.specs.Failure as Failure
 use Rattle.machine.specs.Aging as Aging
-use Rattle.machine.specs.Calls.{Call, Read, Pick, Swap, Fail, Due, At, By, stepAt, stepBy, step, RefusedUnchanged}
+use Rattle.machine.specs.Calls.{Call, Read, Pick, Swap, Fail, Due, Tick, At, By, stepAt, stepBy, step, RefusedUnchanged}
 use Rattle.basics.proofs.Tests.{clash, cond-ind}
 use Rattle.machine.proofs.View.{put-back, put-whole-back}
 use Rattle.machine.proofs.Kept.{refusal-number}
@@ -107,6 +107,10 @@ module _ (z : Sizes) where
     due-same : (j : ℕ) → Same l (Aging.due z j l)
     unfolding Aging.due
     due-same j = same-guard l _ _ _ (same-guard l _ _ _ (same-other l _ _ refl))
+
+  tick-same : (w : Whole) → Same w (Aging.tick z w)
+  unfolding Aging.tick
+  tick-same w = same-guard w _ _ _ (same-other w _ _ refl)
 
   module _ (c : ℕ) (w : Whole) where
     holding-same : (held : Bool) (rest : Outcome Whole) → Same w rest → Same w (Rebuild.holding held c w rest)
@@ -194,6 +198,7 @@ module _ (z : Sizes) where
     call-same (Swap c i value) = at-same i c (Writing.swap z c i value) (swap-same (atNode i c s) c i value)
     call-same (Fail j value) = at-same j 0 (Failure.fail z j value) (fail-same (atNode j 0 s) j value)
     call-same (Due j) = at-same j 0 (Aging.due z j) (due-same (atNode j 0 s) j)
+    call-same Tick = on-same 0 (Aging.tick z) (tick-same (whole 0 s))
     call-same (At op c j) = at-same j c (stepAt op z c j) (at-call op c j)
     call-same (By op c) = by-call op c
 

@@ -20,7 +20,7 @@ use Rattle.records.specs.Node.{nodeWithin}
 use Rattle.records.specs.Client.{clientWithin}
 use Rattle.machine.specs.Stripe.{Stripe, number, Outcome, Local, guard, atNode, blocksFit, differencesFit}
 use Rattle.machine.specs.Writing as Writing
-use Rattle.machine.specs.Calls.{Call, Read, Pick, Swap, Fail, Due, At, By, step}
+use Rattle.machine.specs.Calls.{Call, Read, Pick, Swap, Fail, Due, Tick, At, By, step}
 use Rattle.machine.specs.Calls as Calls
 use Rattle.machine.specs.History.{Event, Kind, SwapInto, AddBy, PickBy, SettleBy, Failure, Other, kind, happened, accepted, nodesAt, sizesAt, finishes}
 use Rattle.machine.specs.Guarantee.{Request, Run, Allowed, AllAllowed, made, play, start, valueOf, RebuiltWell, Holds, EveryList, Demand3, PartOfAll, KeepsDone}
@@ -33,7 +33,7 @@ use Rattle.machine.proofs.Kept.{Fits, Kept, entry}
 use Rattle.machine.proofs.KeptWriting.{read-kept, swap-kept, add-kept, check-kept, drop-kept, sweep-kept}
 use Rattle.machine.proofs.KeptRebuild.{lock-kept, pick-kept, weaken-kept, tighten-kept, write-kept, settle-kept, settle-rebuilt, unlock-kept, quit-kept}
 use Rattle.machine.proofs.KeptFailure.{stop-kept, fail-kept}
-use Rattle.machine.proofs.KeptAging.{due-kept}
+use Rattle.machine.proofs.KeptAging.{due-kept, tick-kept}
 use Rattle.machine.proofs.KeptStart.{fresh-good, fresh-fits}
 use Rattle.machine.proofs.Refusals.{limits-same}
 use Rattle.machine.proofs.Start.{steady}
@@ -187,6 +187,7 @@ module _ (z : Sizes) (within : sizesWithin z ≡ true) where
       by (Swap c i value) bytes = known-swap h s g fit c i value bytes
       by (Fail j value) bytes = quiet (Calls.fail j value) refl refl (fail-kept z L h s g fit j value bytes)
       by (Due j) bytes = quiet (Calls.due j) refl refl (due-kept z h s g fit j)
+      by Tick bytes = quiet Calls.tick refl refl (tick-kept z h s g fit)
       by (At op c j) bytes = at-node op c j
       by (By op c) bytes = by-client op c
 

@@ -1,4 +1,4 @@
--- Document 01: the calls, and the machine's step. Assumes nothing.
+-- Document 01: the calls, and the machine's step. Change request C-12: the tick. Assumes nothing.
 use mathlib.Core.Bool.{false}
 use mathlib.Core.List.{List}
 use mathlib.Core.Path.{_≡_}
@@ -24,6 +24,7 @@ pub data Call : Type 0 where
   Swap : ℕ → ℕ → List ℕ → Call
   Fail : ℕ → List ℕ → Call
   Due : ℕ → Call
+  Tick : Call
   -- a client's add or check at a node
   At : NodeCall → ℕ → ℕ → Call
   -- a client's other calls
@@ -81,6 +82,9 @@ fail j value = Fail j value
 abbrev pub due : ℕ → Call
 due j = Due j
 
+abbrev pub tick : Call
+tick = Tick
+
 -- a call is handed the sizes, and of the stripe what it touches: node j's record and client c's, or all node records and client c's
 abbrev pub stepAt : NodeCall → Sizes → ℕ → ℕ → Local → Outcome Local
 stepAt Add z c j l = Writing.add z c j l
@@ -104,6 +108,7 @@ step z (Pick c) s = onWhole c (Rebuild.pick z c) s
 step z (Swap c i value) s = onNode i c (Writing.swap z c i value) s
 step z (Fail j value) s = onNode j 0 (Failure.fail z j value) s
 step z (Due j) s = onNode j 0 (Aging.due z j) s
+step z Tick s = onWhole 0 (Aging.tick z) s
 step z (At op c j) s = onNode j c (stepAt op z c j) s
 step z (By op c) s = stepBy op z c s
 

@@ -11,7 +11,7 @@ use Rattle.code.specs.Code.{Codeword}
 use Rattle.records.specs.declared.Sizes.{Sizes}
 use Rattle.records.specs.Sizes.{sizesWithin}
 use Rattle.machine.specs.Stripe.{Stripe, number, fresh}
-use Rattle.machine.specs.Calls.{Call, Read, Pick, Swap, Fail, Due, At, By, step}
+use Rattle.machine.specs.Calls.{Call, Read, Pick, Swap, Fail, Due, Tick, At, By, step}
 use Rattle.machine.specs.History.{Event, Written, sizesAt, finishes, given, swapsAt, reportedAt, allSwapsAt, allReportedAt, failedSince}
 use Rattle.machine.specs.History.{isAmong, lastValue}
 
@@ -53,6 +53,7 @@ valueOf (Pick c) = []
 valueOf (Swap c i value) = value
 valueOf (Fail j value) = value
 valueOf (Due j) = []
+valueOf Tick = []
 valueOf (At op c j) = []
 valueOf (By op c) = []
 

@@ -14,7 +14,7 @@ use Rattle.records.specs.declared.NodeCall.the-variants.{Add, Check}
 use Rattle.records.specs.declared.ClientCall.{ClientCall}
 use Rattle.records.specs.declared.ClientCall.the-variants.{Drop, Sweep, Stop, Lock, Weaken, Tighten, Write, Settle, Unlock, Quit}
 use Rattle.machine.specs.Stripe.{Answer, Accepted, Shown, Added, Done, Rebuilt, Told, Refused, number}
-use Rattle.machine.specs.Calls.{Call, Read, Pick, Swap, Fail, Due, At, By}
+use Rattle.machine.specs.Calls.{Call, Read, Pick, Swap, Fail, Due, Tick, At, By}
 
 -- a call that was made, its answer, and the blocks as it left them
 pub record Event : Type 0 where
@@ -54,6 +54,7 @@ kind (Pick c) = PickBy c
 kind (Swap c i value) = SwapInto c i value
 kind (Fail j value) = Failure
 kind (Due j) = Other
+kind Tick = Other
 kind (At op c j) = kindAt op c
 kind (By op c) = cond (isSettle op) (SettleBy c) Other
 

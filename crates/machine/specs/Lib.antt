@@ -5,6 +5,7 @@ pub mod Failure
 pub mod Aging
 pub mod Consistent
 pub mod Calls
+pub mod Ages
 pub mod History
 pub mod Guarantee
 pub mod Examples

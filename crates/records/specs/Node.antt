@@ -8,7 +8,7 @@ use Rattle.code.specs.Decode.{NodeSet, noNodes}
 unfoldable pub use Rattle.code.specs.Decode.{setWithin}
 use Rattle.entries.specs.declared.WriteId.{WriteId}
 use Rattle.entries.specs.declared.Epoch.{Epoch}
-use Rattle.entries.specs.Entries.{Entry, entryLimit, enter, someDue, entriesWithin}
+use Rattle.entries.specs.Entries.{Entry, entryLimit, enter, aged, someDue, entriesWithin}
 use Rattle.records.specs.declared.Sizes.{Sizes}
 use Rattle.records.specs.declared.Opmode.{Opmode}
 use Rattle.records.specs.declared.Opmode.the-variants.{Norm, Recons, Init}
@@ -131,6 +131,10 @@ written e set x = record { opmode = Recons; lmode = x .lmode; holder = x .holder
 -- "Settle c: .. epoch E+1, entries cleared, rset cleared, NORM, still held"
 abbrev pub settled : Epoch → Node → Node
 settled e x = record { opmode = Norm; lmode = x .lmode; holder = x .holder; epoch = record { 0 = e .0 + 1 }; rset = noNodes; entries = [] }
+
+-- C-12: "A tick call adds 1 to the age of each recent entry on every node"
+abbrev pub ticked : Node → Node
+ticked x = withEntries x (aged (x .entries))
 
 -- "A node is due if INIT or if a recent entry has age 64 or more"
 abbrev pub isDue : Node → Bool

@@ -20,7 +20,7 @@ use Rattle.records.specs.declared.NodeAnswer.the-variants.{Accepted, Ref
 use Rattle.records.specs.declared.CheckAnswer.{CheckAnswer}
 use Rattle.records.specs.declared.CheckAnswer.the-variants.{Init, Gc, NoChange}
 use Rattle.records.specs.declared.Refusal.{Refusal}
-use Rattle.records.specs.declared.Refusal.the-variants.{OutOfPhase, WrongMode, OldEpoch, BeforePrevious, Full, Locked, NotHeld}
+use Rattle.records.specs.declared.Refusal.the-variants.{OutOfLimits, OutOfPhase, WrongMode, OldEpoch, BeforePrevious, Full, Locked, NotHeld}
 use Rattle.records.specs.Node.{Node, isRecons, isFree, takesAdd, isL0, isL1, heldBy}
 use Rattle.records.specs.View.{nodeOf}
 
@@ -74,6 +74,10 @@ heldAnswer c x = refusing (not (heldBy c x)) NotHeld Accepted
 -- "Weaken c: needs all n held, none RECONS": "3: weaken with a RECONS node"
 abbrev pub weakenAnswer : ℕ → Node → NodeAnswer
 weakenAnswer c x = refusing (isRecons (x .opmode)) OutOfPhase (heldAnswer c x)
+
+-- C-12: a tick needs no mode, but a record within the limits: "up to 16 entries"
+abbrev pub tickAnswer : Node → NodeAnswer
+tickAnswer x = refusing (ltb entryLimit (length (x .entries))) OutOfLimits Accepted
 
 -- "if the own id isn't recent at j .. (INIT). Else if there is no previous id, or it isn't recent there .. (GC). Else NoChange"
 abbrev pub checkAnswer : Write → Node → CheckAnswer

@@ -5,8 +5,8 @@ ghost use Prim.Native.Nat.{_<_, _≤_};
 ghost use Rattle.code.specs.View.{nodeSetOf};
 ghost use Rattle.entries.specs.Entries.{entryLimit, finishedLimit, discard, markOld};
 ghost use Rattle.entries.specs.View.{idsOf};
-ghost use Rattle.records.specs.Node.{epochLimit, freshNode, failedNode, isNorm, isRecons, isInit, isUnl, isExp, isL0, isL1, isHolder, isFree, takesAdd, heldBy, heldAtL1, withEntries, withLmode, entered, lockedBy, weakenedBy, unlocked, expiredFor, givenBack, written, settled, isDue, holderWithin, nodeWithin};
-ghost use Rattle.records.specs.NodeSteps.{MeetsAtNode, emptyNode, enterAnswer, readAnswer, swapAnswer, afterPrevious, addAnswer, sweepAnswer, lockAnswer, heldAnswer, weakenAnswer, checkAnswer};
+ghost use Rattle.records.specs.Node.{epochLimit, freshNode, failedNode, isNorm, isRecons, isInit, isUnl, isExp, isL0, isL1, isHolder, isFree, takesAdd, heldBy, heldAtL1, withEntries, withLmode, entered, lockedBy, weakenedBy, unlocked, expiredFor, givenBack, written, settled, ticked, isDue, holderWithin, nodeWithin};
+ghost use Rattle.records.specs.NodeSteps.{MeetsAtNode, emptyNode, enterAnswer, readAnswer, swapAnswer, afterPrevious, addAnswer, sweepAnswer, lockAnswer, heldAnswer, weakenAnswer, tickAnswer, checkAnswer};
 ghost use Rattle.records.specs.View.{nodeOf};
 use crate::CheckAnswer;
 use crate::CheckStep;
@@ -464,6 +464,20 @@ impl NodeRecord {
         ensures { λ r. ⌜ MeetsAtNode NodeAnswer.Accepted failedNode self r ⌝ }
     {
         NodeRecord::failed().accepted()
+    }
+
+    // ---- aging
+
+    // Each recent entry is one older.
+    pub fn tick(self) -> NodeStep
+        ensures { λ r. ⌜ MeetsAtNode (tickAnswer (nodeOf self)) (ticked (nodeOf self)) self r ⌝ }
+    {
+        if Entries::LIMIT < self.entries.count {
+            return self.refused(Refusal::OutOfLimits);
+        }
+        let mut node = self;
+        node.entries = self.entries.tick();
+        node.accepted()
     }
 
     // ---- the record after a call

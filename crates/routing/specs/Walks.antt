@@ -6,7 +6,7 @@ use lib.Dec.{eqb, leb, ltb}
 use Rattle.calls.specs.declared.Answer.{Answer}
 use Rattle.calls.specs.declared.Answer.the-variants.{Accepted, Refused}
 use Rattle.calls.specs.declared.StepCall.{StepCall}
-use Rattle.calls.specs.declared.StepCall.the-variants.{Swap, Fail, Due, At, By}
+use Rattle.calls.specs.declared.StepCall.the-variants.{Swap, Fail, Due, Tick, At, By}
 use Rattle.calls.specs.Calls.{caller}
 use Rattle.layout.specs.Layout.{nodeFor}
 use Rattle.records.specs.declared.ClientRecord.{ClientRecord}
@@ -36,6 +36,7 @@ abbrev pub isStopStep : StepCall → Bool
 isStopStep (Swap c i) = false
 isStopStep (Fail card) = false
 isStopStep (Due j) = false
+isStopStep Tick = false
 isStopStep (At op c j) = false
 isStopStep (By op c) = isStop op
 
@@ -47,6 +48,7 @@ abbrev pub isFailureStep : StepCall → Bool
 isFailureStep (Swap c i) = false
 isFailureStep (Fail card) = true
 isFailureStep (Due j) = false
+isFailureStep Tick = false
 isFailureStep (At op c j) = false
 isFailureStep (By op c) = false
 
@@ -63,6 +65,7 @@ abbrev pub valueFitsStep : StepCall → ℕ → ℕ → ℕ → Bool
 valueFitsStep (Swap c i) block card len = eqb len block
 valueFitsStep (Fail j) block card len = eqb len card
 valueFitsStep (Due j) block card len = true
+valueFitsStep Tick block card len = true
 valueFitsStep (At op c j) block card len = true
 valueFitsStep (By op c) block card len = true
 
@@ -79,6 +82,7 @@ abbrev pub stepFor : StepCall → ℕ → ℕ → StepCall
 stepFor (Swap c i) n s = Swap c i
 stepFor (Fail card) n s = Fail (nodeFor n s card)
 stepFor (Due j) n s = Due j
+stepFor Tick n s = Tick
 stepFor (At op c j) n s = At op c j
 stepFor (By op c) n s = By op c
 

@@ -44,6 +44,7 @@ fn is_stop_step(call: StepCall) -> bool
         StepCall::Swap(_, _) => false,
         StepCall::Fail(_) => false,
         StepCall::Due(_) => false,
+        StepCall::Tick => false,
         StepCall::At(_, _, _) => false,
         StepCall::By(op, _) => is_stop_by(op),
     }
@@ -56,6 +57,7 @@ fn is_failure_step(call: StepCall) -> bool
         StepCall::Swap(_, _) => false,
         StepCall::Fail(_) => true,
         StepCall::Due(_) => false,
+        StepCall::Tick => false,
         StepCall::At(_, _, _) => false,
         StepCall::By(_, _) => false,
     }
@@ -68,6 +70,7 @@ fn value_fits_step(call: StepCall, block: usize, card: usize, len: usize) -> boo
         StepCall::Swap(_, _) => len == block,
         StepCall::Fail(_) => len == card,
         StepCall::Due(_) => true,
+        StepCall::Tick => true,
         StepCall::At(_, _, _) => true,
         StepCall::By(_, _) => true,
     }
@@ -81,6 +84,7 @@ fn step_for(call: StepCall, n: usize, s: usize) -> StepCall
         StepCall::Swap(c, i) => StepCall::Swap(c, i),
         StepCall::Fail(card) => StepCall::Fail(layout::node_on(n, s, card)),
         StepCall::Due(j) => StepCall::Due(j),
+        StepCall::Tick => StepCall::Tick,
         StepCall::At(op, c, j) => StepCall::At(op, c, j),
         StepCall::By(op, c) => StepCall::By(op, c),
     }

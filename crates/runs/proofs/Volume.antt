@@ -8,7 +8,7 @@ use Prim.Native.Nat.{ℕ, suc, _<_}
 use lib.ListN.{length, List·getD-map}
 use Rattle.basics.specs.Lists.{elementAt}
 use Rattle.blocks.specs.Blocks.{Bytes}
-use Rattle.machine.specs.Calls.{Call, Read, Pick, Swap, Fail, Due, At, By, step}
+use Rattle.machine.specs.Calls.{Call, Read, Pick, Swap, Fail, Due, Tick, At, By, step}
 use Rattle.machine.specs.Guarantee.{EveryList, Holds, KeepsDone, valueOf}
 use Rattle.machine.specs.Guarantee as Machine
 use Rattle.machine.specs.History.{Event}
@@ -73,6 +73,7 @@ bytes-in z s (Pick c) b = b
 bytes-in z s (Swap c i value) b = b
 bytes-in z s (Fail card value) b = bytes-block (z .b) (suc s) value b
 bytes-in z s (Due j) b = b
+bytes-in z s Tick b = b
 bytes-in z s (At op c j) b = b
 bytes-in z s (By op c) b = b
 

@@ -17,7 +17,7 @@ use Rattle.records.specs.Client.{Client, freshClient, clientWithin}
 use Rattle.records.specs.Sizes.{sizesWithin, isNode, isPosition, isRedundant, isClient}
 use Rattle.machine.specs.Stripe.{Stripe, Answer, Outcome, refused, guard, Local, Whole, nodeAt, clientAt, atNode, onNode, whole, onWhole, blocksFit, nodesFit}
 use Rattle.basics.specs.Lists.{elementAt}
-use Rattle.machine.specs.Calls.{Call, Read, Pick, Swap, Fail, Due, At, By, step}
+use Rattle.machine.specs.Calls.{Call, Read, Pick, Swap, Fail, Due, Tick, At, By, step}
 use Rattle.records.specs.declared.NodeCall.{NodeCall}
 use Rattle.records.specs.declared.NodeCall.the-variants.{Add, Check}
 use Rattle.records.specs.declared.ClientCall.{ClientCall}
@@ -86,6 +86,7 @@ clip-shelf room (some (Pick c)) = refl
 clip-shelf room (some (Swap c i value)) = refl
 clip-shelf room (some (Fail j value)) = refl
 clip-shelf room (some (Due j)) = refl
+clip-shelf room (some Tick) = refl
 clip-shelf room (some (At op c j)) = refl
 clip-shelf room (some (By op c)) = refl
 
@@ -95,6 +96,7 @@ clip-event room (Pick c) a = refl
 clip-event room (Swap c i value) a = refl
 clip-event room (Fail j value) a = refl
 clip-event room (Due j) a = refl
+clip-event room Tick a = refl
 clip-event room (At op c j) a = refl
 clip-event room (By op c) a = refl
 
@@ -280,6 +282,7 @@ module _ (z : Sizes) (s : Stripe) where
         value-clip (λ v. step z (Fail (clipNumber j) v) s) room fits (λ v e. denied-at (clipNumber j) 0 (Failure.fail z (clipNumber j) v) true (fail-long (clipNumber j) v (atNode (clipNumber j) 0 s) e)) v
         ∙ at-node (λ j. Failure.fail z j v) (λ l. not (sizesWithin z && (blocksFit z (l .blocks) && eqb (length v) (z .b)))) (isNode z) (λ j l e. first-tests _ _ l _ e) no-node j
     clip-call room fits (Due j) = at-node (Aging.due z) (λ l. not (sizesWithin z && nodeWithin z (l .node))) (isNode z) (λ j l e. first-tests _ _ l _ e) no-node j
+    clip-call room fits Tick = refl
     clip-call room fits (By Lock c) = on-clip (Rebuild.lock z) (Rebuild.outOfLimits z) (λ c w e. first-tests _ _ w _ e) c
     clip-call room fits (Pick c) = on-clip (Rebuild.pick z) tables (λ c w e. first-tests _ _ w _ e) c
     clip-call room fits (By Weaken c) = on-clip (Rebuild.weaken z) (Rebuild.outOfLimits z) (λ c w e. first-tests _ _ w _ e) c

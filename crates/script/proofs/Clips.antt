@@ -12,7 +12,8 @@ use lib.Seq.{take-nil, take-append-le, take-suc-set}
 use borrow.Author.Tests.{eqb-true, leb-true}
 use Rattle.basics.proofs.Tests.{and-both}
 use Rattle.machine.specs.Calls.{Call}
-use Rattle.script.specs.Lines.{isDigit, digitsFrom, numeral, both, bytesOf, withOne, withTwo, withValue, withThree, callBy}
+use Rattle.machine.specs.Calls as Calls
+use Rattle.script.specs.Lines.{isDigit, digitsFrom, numeral, both, bytesOf, withNone, withOne, withTwo, withValue, withThree, callBy}
 use Rattle.script.specs.Reading.{clipDigits, clipNumber, narrowed, clipValue, clip, clipped, kept, Stored, clippedFrom, numberFrom, valueFrom, last, afterFirst, afterSecond, withTarget}
 use Rattle.script.specs.declared.reader.Number.{Number}
 use Rattle.script.specs.declared.reader.Number.the-variants.{Empty, Digits, Bad}
@@ -22,6 +23,10 @@ use Rattle.script.specs.declared.reader.Target.the-variants as Targets
 map-cond : {A B : Type 0} (f : A → B) (t : Bool) (x y : Option A) → Option·map f (cond t x y) ≡ cond t (Option·map f x) (Option·map f y)
 map-cond f true x y = refl
 map-cond f false x y = refl
+
+-- a line of no field has nothing to clip
+pub clip-none : (room letter : ℕ) → clipped room (withNone letter) ≡ withNone letter
+clip-none room letter = map-cond (clip room) (eqb letter 75) (some Calls.tick) none
 
 cond-same : {A : Type 0} (t : Bool) (x : A) → cond t x x ≡ x
 cond-same true x = refl

@@ -8,7 +8,7 @@ use lib.Dec.{eqb, leb, ltb}
 use Rattle.machine.specs.Stripe as Stripe
 use Rattle.machine.specs.Stripe.{Answer, Accepted, Added, Done, Rebuilt, Told, Refused, number}
 use Rattle.machine.specs.Calls as Calls
-use Rattle.machine.specs.Calls.{Call, Read, Pick, Swap, Fail, Due, At, By}
+use Rattle.machine.specs.Calls.{Call, Read, Pick, Swap, Fail, Due, Tick, At, By}
 use Rattle.records.specs.declared.NodeCall.{NodeCall}
 use Rattle.records.specs.declared.NodeCall.the-variants.{Add, Check}
 use Rattle.records.specs.declared.ClientCall.{ClientCall}
@@ -99,8 +99,12 @@ withThree (some c) none value = none
 withThree (some c) (some i) none = none
 withThree (some c) (some i) (some value) = some (Swap c i value)
 
+-- C-12: K, a tick, has no field
+abbrev pub withNone : ℕ → Option Call
+withNone letter = when (eqb letter 75) Calls.tick none
+
 unfoldable pub callBy : ℕ → List (List ℕ) → Option Call
-callBy letter [] = none
+callBy letter [] = withNone letter
 callBy letter (a ∷ []) = withOne letter (numeral a)
 callBy letter (a ∷ b ∷ []) = cond (eqb letter 78) (withValue (numeral a) (bytesOf b)) (withTwo letter (numeral a) (numeral b))
 callBy letter (a ∷ b ∷ v ∷ []) = cond (eqb letter 83) (withThree (numeral a) (numeral b) (bytesOf v)) none
@@ -124,6 +128,7 @@ isShelfLine (Pick c) = true
 isShelfLine (Swap c i value) = true
 isShelfLine (Fail j value) = true
 isShelfLine (Due j) = false
+isShelfLine Tick = false
 isShelfLine (At op c j) = true
 isShelfLine (By op c) = true
 
@@ -172,6 +177,7 @@ eventOf (Pick c) a = Events.None
 eventOf (Swap c i value) a = ifAccepted a Events.Swapped
 eventOf (Fail j value) a = Events.None
 eventOf (Due j) a = Events.None
+eventOf Tick a = Events.None
 eventOf (At op c j) a = eventAt op a
 eventOf (By op c) a = eventBy op a
 

@@ -6,7 +6,7 @@ use mathlib.Core.Option.{Option, none, some, Option·map}
 use Prim.Native.Nat.{ℕ, zero, suc, _+_, _-_, _*_, min}
 use lib.Dec.{eqb, ltb}
 use lib.ListN.{length, take}
-use Rattle.machine.specs.Calls.{Call, Read, Pick, Swap, Fail, Due, At, By}
+use Rattle.machine.specs.Calls.{Call, Read, Pick, Swap, Fail, Due, Tick, At, By}
 use Rattle.calls.specs.Calls.{callOf}
 use Rattle.script.specs.Lines.{onto, fields, isDigit, hexDigit, both, bytesOf, withOne, withTwo, withValue, withThree, lineOf, call}
 use Rattle.script.specs.declared.reader.Line.{Line}
@@ -42,6 +42,7 @@ clip room (Pick c) = Pick (clipNumber c)
 clip room (Swap c i value) = Swap (clipNumber c) (clipNumber i) (clipValue room value)
 clip room (Fail j value) = Fail (clipNumber j) (clipValue room value)
 clip room (Due j) = Due (clipNumber j)
+clip room Tick = Tick
 clip room (At op c j) = At op (clipNumber c) (clipNumber j)
 clip room (By op c) = By op (clipNumber c)
 

@@ -6,7 +6,7 @@ ghost use mathlib.Core.Bool.{true};
 ghost use Prim.Native.Nat.{ℕ, _+_, _-_, _*_};
 ghost use Rattle.machine.specs.Calls.{At, By};
 ghost use Rattle.calls.specs.Calls.{callOf};
-ghost use Rattle.script.specs.Lines.{isDigit, isShelfLine, shelfLine, withOne, withTwo};
+ghost use Rattle.script.specs.Lines.{isDigit, isShelfLine, shelfLine, withNone, withOne, withTwo};
 ghost use Rattle.script.specs.Reading.{HasRead, Follows, Finishes, callIn, kept, withTarget, Stored, HexByte, HexDigit, clipDigits, clipNumber, numberFrom};
 use calls::Call;
 use calls::StepCall;
@@ -80,6 +80,7 @@ fn is_shelf_line(call: Call) -> bool
             StepCall::Swap(_, _) => true,
             StepCall::Fail(_) => true,
             StepCall::Due(_) => false,
+            StepCall::Tick => false,
             StepCall::At(_, _, _) => true,
             StepCall::By(_, _) => true,
         },
@@ -126,7 +127,7 @@ impl LineReader {
         match self {
             LineReader::Unreadable => Line::Unreadable,
             LineReader::Start => Line::Unreadable,
-            LineReader::Letter(_) => Line::Unreadable,
+            LineReader::Letter(letter) => with_none(letter),
             LineReader::First(letter, first) => match first {
                 Number::Digits(c) => with_one(letter, narrow(c)),
                 Number::Empty => Line::Unreadable,
@@ -159,7 +160,16 @@ fn at(op: NodeCall, c: u8, j: u8) -> Line
     Line::Play(Call::Step(StepCall::At(op, c, j)), 0)
 }
 
-// The calls by their letters: of a number, of two, of a value.
+// The calls by their letters: of no number, of one, of two, of a value.
+fn with_none(letter: u8) -> Line
+    ensures { λ r. ⌜ ((value : List ℕ) → callIn r value ≡ withNone letter) ⌝ }
+{
+    match letter {
+        b'K' => Line::Play(Call::Step(StepCall::Tick), 0),
+        _ => Line::Unreadable,
+    }
+}
+
 fn with_one(letter: u8, c: u8) -> Line
     ensures { λ r. ⌜ ((value : List ℕ) → callIn r value ≡ withOne letter (some c)) ⌝ }
 {

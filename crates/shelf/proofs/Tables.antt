@@ -7,7 +7,7 @@ use mathlib.Core.Logic.{_⊎_, inl, inr}
 use mathlib.Core.Path.{_≡_, refl, sym, ap, _∙_, subst}
 use Prim.Native.Nat.{ℕ, zero, suc, _+_, _-_, _<_, _≤_}
 use native.Mathlib.Decide.{decLt}
-use native.Mathlib.Nat.{add-zero, zero-add, min-le-right}
+use native.Mathlib.Nat.{add-zero, zero-add}
 use native.Mathlib.Omega.{arith}
 use lib.Dec.{eqb, leb}
 use lib.ListN.{length, getD, take, length-map, List·getD-map}
@@ -22,11 +22,9 @@ use Rattle.records.specs.Client.{freshClient}
 use Rattle.records.specs.Node.{failedNode}
 use Rattle.records.specs.View.{clientOf, nodeOf}
 use Rattle.step.specs.View.{blankClient}
-use Rattle.stripe.specs.declared.seen.Change.{Change}
-use Rattle.stripe.specs.declared.seen.Change.the-variants.{Keep, Expire, Restore, Weaken}
 use Rattle.stripe.specs.Seen.{Sees, changedAt, endOf, firstOf}
 use Rattle.stripe.specs.View.{blankRecord}
-use Rattle.stripe.proofs.Applied.{applied-is}
+use Rattle.stripe.proofs.Applied.{applied-is, range-end}
 use Rattle.stripe.proofs.Seeing.{seenOf, seen-last, seen-none, sees-all}
 use Rattle.taking.specs.declared.Found.{Found}
 use Rattle.taking.specs.declared.Looked.{Looked}
@@ -61,13 +59,7 @@ looked-ends q n l b = rw (← b .1 .0) (by (l .sought .all))
     by false = omega arith
 
 pub others-ends : (o : Others) (n : ℕ) → endOf (o .change) n ≤ n
-others-ends o n = by (o .change)
-  where
-    by : (t : Change) → endOf t n ≤ n
-    by Keep = omega arith
-    by (Expire c) = omega arith
-    by (Restore x c expired) = min-le-right x n
-    by (Weaken k c) = omega arith
+others-ends o n = range-end (o .change) n
 
 -- one turn if the table has record j, and none if not
 turns : (j n : ℕ) → ((endAt j n - placeOf j ≡ 1) × ((1 ≤ j) × (j ≤ n))) ⊎ ((endAt j n - placeOf j ≡ 0) × (1 ≤ j → n < j))

@@ -95,6 +95,7 @@ fn event_of(call: StepCall, answer: Answer) -> Event
         StepCall::Swap(_, _) => if_accepted(answer, Event::Swapped),
         StepCall::Fail(_) => Event::None,
         StepCall::Due(_) => Event::None,
+        StepCall::Tick => Event::None,
         StepCall::At(op, _, _) => event_at(op, answer),
         StepCall::By(op, _) => event_by(op, answer),
     }

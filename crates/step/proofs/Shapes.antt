@@ -6,11 +6,13 @@ use Prim.Native.Nat.{ℕ}
 use Rattle.machine.specs.Stripe.{Stripe, replacing, Outcome, Local, Whole, answered, nodeAt, clientAt, putNode, onNode, putWhole, onWhole}
 use Rattle.basics.specs.Lists.{setAt}
 use Rattle.machine.specs.Calls as Machine
+use Rattle.machine.specs.Aging as Aging
 use Rattle.machine.proofs.Refusals.{refusals-same}
 use Rattle.records.specs.declared.Sizes.{Sizes}
 use Rattle.records.specs.declared.ClientCall.{ClientCall}
 use Rattle.records.specs.declared.NodeRecord.{NodeRecord}
 use Rattle.records.specs.declared.ClientRecord.{ClientRecord}
+use Rattle.records.specs.Sizes.{sizesWithin}
 use Rattle.records.specs.Node.{Node}
 use Rattle.records.specs.Client.{Client, nextNode}
 use Rattle.records.specs.View.{nodeOf, clientOf}
@@ -24,7 +26,8 @@ use Rattle.calls.specs.Answers.{Meets, Left, answerOf, local, whole}
 use Rattle.calls.specs.Calls.{stepOf, caller, target, targetBy, looksAtAll, looksBy}
 use Rattle.calls.proofs.Left.{left-same, left-with, left-map}
 use Rattle.stripe.specs.declared.seen.Seen.{Seen}
-use Rattle.stripe.specs.Seen.{applied, keep}
+use Rattle.stripe.specs.Seen.{Sees, applied, keep}
+use Rattle.aging.specs.declared.Ticked.{Ticked}
 use Rattle.rebuild.specs.declared.Stepped.{Stepped}
 use Rattle.rebuild.specs.Contracts.{Told, nodesAfter, Steps}
 use Rattle.step.specs.Steps.{Handed, putBack, stripeWith, StepsAs}
@@ -135,6 +138,21 @@ module _ (z : Sizes) (call : StepCall) (seen : Seen) (node : NodeRecord) (client
       ∙ on-whole g (caller call) s (h .client-is)
       ∙ sym (is s))
       (met .left)
+
+-- a tick, which is of no client and at no node: what it says becomes of all nodes
+pub steps-tick : (z : Sizes) (seen : Seen) (node : NodeRecord) (client : ClientRecord) (value blocks spare differences : List ℕ) (r : Stepped) {t : Ticked}
+    → r ≡ record { answer = t .answer; node = node; client = client; change = t .change }
+    → ((c : ℕ) (nodes : List Node) (x : Client) (blocks spare : List ℕ) → (sizesWithin z ≡ true → Sees z c nodes seen)
+    → Meets (Aging.tick z (whole nodes x blocks spare)) (t .answer) [] (whole (applied (t .change) nodes) x blocks spare) (t .change ≡ keep))
+    → StepsAs z StepCalls.Tick seen node client value blocks spare differences r blocks differences
+unfolding Machine.step setAt
+steps-tick z seen node client value blocks spare differences r {t} e m nodes clients h =
+    let s = stripeWith nodes clients blocks spare differences in
+    let met = m 0 nodes (clientAt clients 0) blocks spare (h .seen-is refl) in
+    meets z StepCalls.Tick seen node client value blocks spare differences r blocks differences s refl refl
+    (ap (λ r. answered (answerOf (r .answer) []) (putBack z StepCalls.Tick (clientOf client) r blocks differences s)) e
+    ∙ ap (λ o. answered (o .answer) (putWhole 0 (o .after) s)) (met .said))
+    (rw e (left-map (t .answer) (λ l. (refl, (refl, l))) (met .left)))
 
 -- a client's call on the whole stripe that is handed no table
 pub steps-by : (z : Sizes) (op : ClientCall) (c : ℕ) (seen : Seen) (node : NodeRecord) (client : ClientRecord) (value blocks spare differences : List ℕ)

@@ -7,6 +7,7 @@ ghost use Rattle.machine.specs.Calls.{stepAt};
 ghost use Rattle.records.specs.View.{nodeOf, clientOf};
 ghost use Rattle.stripe.specs.Seen.{keep};
 ghost use Rattle.step.specs.Steps.{StepsAs};
+use aging::Ticked;
 use calls::Answer;
 use calls::AtNode;
 use calls::OfClient;
@@ -71,6 +72,20 @@ fn asked(node: NodeRecord, client: ClientRecord, answer: Answer) -> AtNode
         answer: answer,
         node: node,
         client: client,
+    }
+}
+
+// What a tick leaves: the very records, and all nodes changed.
+fn ticked(node: NodeRecord, client: ClientRecord, r: Ticked) -> Stepped
+    ensures { λ s. ⌜ s ≡ record { answer = r .answer; node = node; client = client; change = r .change } ⌝ }
+{
+    let answer = r.answer;
+    let change = r.change;
+    Stepped {
+        answer: answer,
+        node: node,
+        client: client,
+        change: change,
     }
 }
 
@@ -153,6 +168,7 @@ pub fn step(
         )),
         StepCall::Fail(j) => kept(failed(client, failure::fail(z, j, value, node, blocks))),
         StepCall::Due(j) => kept(asked(node, client, aging::due(z, j, node))),
+        StepCall::Tick => ticked(node, client, aging::tick(z, seen)),
         StepCall::At(op, c, j) => kept(at_node(z, op, c, j, node, client, blocks, differences)),
         StepCall::By(op, c) => by_client(z, op, c, seen, node, client, blocks, spare),
     }

@@ -17,8 +17,8 @@ use Rattle.records.specs.declared.Lmode.the-variants.{Unl}
 use Rattle.records.specs.Node.{Node, failedNode, expiredFor, givenBack}
 use Rattle.records.specs.View.{oldLmode, oldLmodes}
 use Rattle.stripe.specs.declared.seen.Change.{Change}
-use Rattle.stripe.specs.declared.seen.Change.the-variants.{Keep, Expire, Restore, Weaken}
-use Rattle.stripe.specs.Seen.{weakenedFor, changedAt, firstOf, endOf, applied}
+use Rattle.stripe.specs.declared.seen.Change.the-variants.{Keep, Expire, Restore, Weaken, Tick}
+use Rattle.stripe.specs.Seen.{weakenedFor, tickedWithin, changedAt, firstOf, endOf, applied}
 use Rattle.stripe.proofs.Changes.{after-first, after-rest}
 
 abbrev at : List Node → ℕ → Node
@@ -35,6 +35,7 @@ inside (Restore x c expired) l p b f e =
     restored-first c (oldLmodes x expired) l p (rw (locked x expired) (omega arith))
     ∙ rw (getD-listOf x (λ i. oldLmode (has (nodeSetOf expired) (suc i))) p Unl (omega arith))
 inside (Weaken k c) l p b f e = after-rest (weakenedFor c) k l p (omega arith) b
+inside Tick l p b f e = after-rest tickedWithin 0 l p (omega arith) b
 
 outside : (t : Change) (l : List Node) (p : ℕ) → p < length l → (firstOf t (length l) ≤ p → endOf t (length l) ≤ p)
     → at (applied t l) p ≡ at l p
@@ -46,6 +47,7 @@ outside (Weaken k c) l p b o = by (decLt p k)
     by : Dec (p < k) → at (applied (Weaken k c) l) p ≡ at l p
     by (yes h) = after-first (weakenedFor c) k l p h
     by (no h) = absurd (omega (arith, o (omega arith)))
+outside Tick l p b o = absurd (omega (arith, o (omega arith)))
 
 -- `applied` is the change of each node in its range
 pub applied-length : (t : Change) (l : List Node) → length (applied t l) ≡ length l
@@ -53,6 +55,7 @@ applied-length Keep l = refl
 applied-length (Expire c) l = length-map l (expiredFor c)
 applied-length (Restore x c expired) l = length-restored c (oldLmodes x expired) l
 applied-length (Weaken k c) l = length-from failedNode (weakenedFor c) k l
+applied-length Tick l = length-map l tickedWithin
 
 pub applied-is : (t : Change) (l r : List Node) → length r ≡ length l
     → ((p : ℕ) → p < length l → firstOf t (length l) ≤ p → p < endOf t (length l) → at r p ≡ changedAt t p (at l p))
@@ -76,9 +79,11 @@ range-order Keep n = omega arith
 range-order (Expire c) n = omega arith
 range-order (Restore x c expired) n = omega arith
 range-order (Weaken k c) n = omega arith
+range-order Tick n = omega arith
 
 pub range-end : (t : Change) (n : ℕ) → endOf t n ≤ n
 range-end Keep n = omega arith
 range-end (Expire c) n = omega arith
 range-end (Restore x c expired) n = omega arith
 range-end (Weaken k c) n = omega arith
+range-end Tick n = omega arith

@@ -4,7 +4,7 @@ ghost use Prim.Native.Nat.{suc, _≤_, min};
 ghost use Rattle.code.specs.Decode.{has};
 ghost use Rattle.code.specs.View.{nodeSetOf};
 ghost use Rattle.records.specs.View.{nodeOf, oldLmode};
-ghost use Rattle.stripe.specs.Seen.{seenNone, seenWith, keep, expire, restore, weaken, changedAt, firstOf, endOf};
+ghost use Rattle.stripe.specs.Seen.{seenNone, seenWith, keep, expire, restore, weaken, tick, changedAt, firstOf, endOf};
 use code::NodeSet;
 use records::Lmode;
 use records::NodeRecord;
@@ -18,12 +18,13 @@ pub struct Seen {
 }
 
 // What becomes of the other nodes: nothing; all that c held becomes EXP; of nodes 1 to x those that c still holds get their old lmode, EXP if in
-// the set, else UNL; the nodes after x go to L0 for c.
+// the set, else UNL; the nodes after x go to L0 for c; each recent entry is one older.
 pub enum Change {
     Keep,
     Expire(u8),
     Restore(u8, u8, NodeSet),
     Weaken(u8, u8),
+    Tick,
 }
 
 impl Seen {
@@ -99,6 +100,12 @@ impl Change {
         Change::Weaken(k, c)
     }
 
+    pub fn tick() -> Self
+        ensures { λ r. ⌜ r ≡ tick ⌝ }
+    {
+        Change::Tick
+    }
+
     // The first place, of n, that it touches.
     pub fn first(self, n: usize) -> usize
         ensures { λ r. ⌜ r ≡ firstOf self n ⌝ }
@@ -108,6 +115,7 @@ impl Change {
             Change::Expire(_) => 0,
             Change::Restore(_, _, _) => 0,
             Change::Weaken(k, _) => smaller(k as usize, n),
+            Change::Tick => 0,
         }
     }
 
@@ -120,6 +128,7 @@ impl Change {
             Change::Expire(_) => n,
             Change::Restore(x, _, _) => smaller(x as usize, n),
             Change::Weaken(_, _) => n,
+            Change::Tick => n,
         }
     }
 
@@ -133,6 +142,7 @@ impl Change {
             Change::Restore(_, c, expired) => node.give_back(c, old_lmode(was_exp(expired, i)))
                 .node,
             Change::Weaken(_, c) => node.weaken(c).node,
+            Change::Tick => node.tick().node,
         }
     }
 }

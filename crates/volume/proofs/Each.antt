@@ -15,7 +15,7 @@ use Rattle.basics.proofs.Tests.{and-both, clash, is-true, or-none}
 use Rattle.entries.specs.Entries.{isUpTo}
 use Rattle.layout.specs.Layout.{isOneOf, nodeFor, nodeOn}
 use Rattle.layout.proofs.Cards.{one-card}
-use Rattle.machine.specs.Calls.{Call, Read, Pick, Swap, Fail, Due, At, By, step}
+use Rattle.machine.specs.Calls.{Call, Read, Pick, Swap, Fail, Due, Tick, At, By, step}
 use Rattle.machine.specs.Stripe.{Stripe, Accepted, Outcome, answered, refused, guard, number, atNode, putNode, whole, putWhole}
 use Rattle.machine.specs.Failure as Failure
 use Rattle.machine.proofs.View.{put-back, put-whole-back}
@@ -121,6 +121,7 @@ module _ (z : Sizes) (v : Volume) where
   each-alike (Swap c i value) e = clash e refl
   each-alike (Fail card value) e = fail-alike card value
   each-alike (Due j) e = clash e refl
+  each-alike Tick e = clash e refl
   each-alike (At op c j) e = clash e refl
   each-alike (By op c) e = by-alike op c e
 

@@ -7,7 +7,7 @@ use lib.ListN.{length}
 use Rattle.basics.specs.Lists.{elementAt, listOf, setAt, someOf}
 use Rattle.blocks.specs.Blocks.{block}
 use Rattle.layout.specs.Layout.{nodeFor, positionOf, stripeOf}
-use Rattle.machine.specs.Calls.{Call, Read, Pick, Swap, Fail, Due, At, By, step}
+use Rattle.machine.specs.Calls.{Call, Read, Pick, Swap, Fail, Due, Tick, At, By, step}
 use Rattle.machine.specs.Calls as Calls
 use Rattle.machine.specs.Stripe.{Stripe, Accepted, Outcome, answered, guard, number}
 use Rattle.records.specs.declared.ClientCall.{ClientCall}
@@ -57,6 +57,7 @@ isOfEach (Pick c) = false
 isOfEach (Swap c i value) = false
 isOfEach (Fail card value) = true
 isOfEach (Due j) = false
+isOfEach Tick = false
 isOfEach (At op c j) = false
 isOfEach (By op c) = isStop op
 
@@ -84,6 +85,7 @@ callIn z s (Pick c) = Pick c
 callIn z s (Swap c i value) = Swap c i value
 callIn z s (Fail card value) = Fail (nodeFor (z .n) s card) (block (z .b) (suc s) value)
 callIn z s (Due j) = Due j
+callIn z s Tick = Tick
 callIn z s (At op c j) = At op c j
 callIn z s (By op c) = By op c
 
@@ -98,6 +100,7 @@ givenFits z stripes (Pick c) = true
 givenFits z stripes (Swap c i value) = eqb (length value) (z .b)
 givenFits z stripes (Fail card value) = eqb (length value) (stripes * z .b)
 givenFits z stripes (Due j) = true
+givenFits z stripes Tick = true
 givenFits z stripes (At op c j) = true
 givenFits z stripes (By op c) = true
 

@@ -13,7 +13,7 @@ use Rattle.basics.proofs.Lists.{element-past}
 use Rattle.basics.proofs.Tests.{clash}
 use Rattle.calls.specs.declared.Call.the-variants as Calls
 use Rattle.calls.specs.declared.StepCall.{StepCall}
-use Rattle.calls.specs.declared.StepCall.the-variants.{Swap, Fail, Due, At, By}
+use Rattle.calls.specs.declared.StepCall.the-variants.{Swap, Fail, Due, Tick, At, By}
 use Rattle.calls.specs.Calls.{stepOf}
 use Rattle.code.specs.Code.{dataLimit}
 use Rattle.code.proofs.Sizes as Sizes
@@ -66,6 +66,7 @@ module _ (z : records.Sizes) (u : volume.Volume) (one other : List ℕ) (block :
         and-false few,
       )
   too-long s (Due j) = refl
+  too-long s Tick = refl
   too-long s (At op c j) = refl
   too-long s (By op c) = refl
 

@@ -14,7 +14,7 @@ use Rattle.basics.specs.Lists.{listOf, someOf}
 use Rattle.basics.proofs.Tests.{and-right}
 use Rattle.code.specs.Code.{dataLimit, nodeLimit}
 use Rattle.layout.specs.Layout.{nodeFor, positionOf, stripeOf}
-use Rattle.machine.specs.Calls.{Call, Read, Pick, Swap, Fail, Due, At, By}
+use Rattle.machine.specs.Calls.{Call, Read, Pick, Swap, Fail, Due, Tick, At, By}
 use Rattle.machine.specs.Stripe.{Accepted, Outcome, Stripe, answered, guard, refused}
 use Rattle.records.specs.declared.Refusal.the-variants.{OutOfLimits, OutOfRange}
 use Rattle.records.specs.declared.Sizes.{Sizes}
@@ -56,6 +56,7 @@ module _ (z : Sizes) (v : Volume) (room : ℕ) (ok : Roomy z v room) where
   same-given (Swap c i value) = length-clip room (z .b) value (ok .block)
   same-given (Fail card value) = length-clip room (count * z .b) value (ok .card)
   same-given (Due j) = refl
+  same-given Tick = refl
   same-given (At op c j) = refl
   same-given (By op c) = refl
 
@@ -78,6 +79,7 @@ module _ (z : Sizes) (v : Volume) (room : ℕ) (ok : Roomy z v room) where
       let fits : length value ≡ count * z .b = eqb-true (length value) (count * z .b) g in
       rw (clip-value room value (omega (arith, fits, ok .card)), same-node s card)
   same-step (Due j) g s = clip-call z (stripeAt v s) (ok .small s) room (ok .block) (Due j)
+  same-step Tick g s = clip-call z (stripeAt v s) (ok .small s) room (ok .block) Tick
   same-step (At op c j) g s = clip-call z (stripeAt v s) (ok .small s) room (ok .block) (At op c j)
   same-step (By op c) g s = clip-call z (stripeAt v s) (ok .small s) room (ok .block) (By op c)
 

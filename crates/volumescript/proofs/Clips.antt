@@ -7,7 +7,7 @@ use Prim.Native.Nat.{ℕ}
 use native.Mathlib.Omega.{arith}
 use lib.Dec.{eqb}
 use borrow.Author.Tests.{ne-eqb}
-use Rattle.machine.specs.Calls.{Call, Read, Pick, Swap, Fail, Due, At, By}
+use Rattle.machine.specs.Calls.{Call, Read, Pick, Swap, Fail, Due, Tick, At, By}
 use Rattle.script.specs.Lines.{bytesOf, callBy, digitsFrom, isDigit, lineOf, numeral, withThree}
 use Rattle.script.specs.Reading.{clip, clipDigits, clipNumber, clipped, last, numberFrom, valueFrom}
 use Rattle.script.specs.declared.reader.Number.the-variants.{Empty}
@@ -59,6 +59,7 @@ module _ (room : ℕ) where
   same-each (Swap c i value) = refl
   same-each (Fail j value) = refl
   same-each (Due j) = refl
+  same-each Tick = refl
   same-each (At op c j) = refl
   same-each (By op c) = refl
 

@@ -5,7 +5,7 @@ use mathlib.Core.Option.{Option, none, some, Option·map}
 use Prim.Native.Nat.{ℕ}
 use lib.ListN.{length}
 use Rattle.calls.specs.Calls.{callOf}
-use Rattle.machine.specs.Calls.{Call, Read, Pick, Swap, Fail, Due, At, By}
+use Rattle.machine.specs.Calls.{Call, Read, Pick, Swap, Fail, Due, Tick, At, By}
 use Rattle.script.specs.Lines.{bytesOf, fields, lineOf}
 use Rattle.script.specs.Reading as script
 use Rattle.script.specs.Reading.{clip, clipDigits, clipNumber, clipValue, clipped, kept, narrowed, numberFrom, valueFrom}
@@ -75,6 +75,7 @@ withBytes c b (some (Pick d)) = none
 withBytes c b (some (Swap d i value)) = some (SwapBlock c b value)
 withBytes c b (some (Fail j value)) = none
 withBytes c b (some (Due j)) = none
+withBytes c b (some Tick) = none
 withBytes c b (some (At op d j)) = none
 withBytes c b (some (By op d)) = none
 

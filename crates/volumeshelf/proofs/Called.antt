@@ -18,7 +18,7 @@ use Rattle.blocks.proofs.Parts.{part-length}
 use Rattle.calls.specs.declared.Answer.{Answer}
 use Rattle.calls.specs.declared.Answer.the-variants.{Accepted, Refused}
 use Rattle.calls.specs.declared.StepCall.{StepCall}
-use Rattle.calls.specs.declared.StepCall.the-variants.{Swap, Fail, Due, At, By}
+use Rattle.calls.specs.declared.StepCall.the-variants.{Swap, Fail, Due, Tick, At, By}
 use Rattle.calls.specs.Answers.{Left, answerOf, isUnchanged}
 use Rattle.calls.proofs.Left.{left-free, left-same, refusing}
 use Rattle.layout.specs.Layout.{nodeFor}
@@ -289,6 +289,7 @@ module _ (q : Request) (value : List ℕ) (t₀ : Lent) where
   each-is (Step (Swap c i)) = refl
   each-is (Step (Fail j)) = refl
   each-is (Step (Due j)) = refl
+  each-is (Step Tick) = refl
   each-is (Step (At op c j)) = refl
   each-is (Step (By op c)) = refl
 
@@ -461,6 +462,7 @@ stop-call (Pick c) e = clash e refl
 stop-call (Step (Swap c i)) e = clash e refl
 stop-call (Step (Fail j)) e = clash e refl
 stop-call (Step (Due j)) e = clash e refl
+stop-call (Step Tick) e = clash e refl
 stop-call (Step (At op c j)) e = clash e refl
 stop-call (Step (By op c)) e = (c, ap (λ (y : StepCall). Step y) (stop-by op c e))
 
@@ -469,6 +471,7 @@ fail-call (Pick c) e = clash e refl
 fail-call (Step (Swap c i)) e = clash e refl
 fail-call (Step (Fail j)) e = (j, refl)
 fail-call (Step (Due j)) e = clash e refl
+fail-call (Step Tick) e = clash e refl
 fail-call (Step (At op c j)) e = clash e refl
 fail-call (Step (By op c)) e = clash e refl
 

@@ -7,7 +7,7 @@ use lib.Dec.{eqb, leb, ltb}
 use lib.ListN.{length}
 use borrow.Author.Tests.{eqb-true, le-leb}
 use Rattle.basics.proofs.Tests.{and-both, clash}
-use Rattle.calls.specs.declared.StepCall.the-variants.{Swap, Fail, Due, At, By}
+use Rattle.calls.specs.declared.StepCall.the-variants.{Swap, Fail, Due, Tick, At, By}
 use Rattle.machine.specs.Stripe.{Outcome, guard, refused}
 use Rattle.records.specs.declared.Refusal.the-variants.{OutOfLimits, OutOfRange}
 use Rattle.records.specs.declared.Sizes.{Sizes}
@@ -31,6 +31,7 @@ given-is (Pick c) z stripes value = refl
 given-is (Step (Swap c i)) z stripes value = refl
 given-is (Step (Fail j)) z stripes value = refl
 given-is (Step (Due j)) z stripes value = refl
+given-is (Step Tick) z stripes value = refl
 given-is (Step (At op c j)) z stripes value = refl
 given-is (Step (By op c)) z stripes value = refl
 

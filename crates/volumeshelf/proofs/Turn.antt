@@ -13,7 +13,7 @@ use Rattle.basics.proofs.Lists.{getD-listOf, length-listOf}
 use Rattle.blocks.specs.Blocks.{block, part}
 use Rattle.calls.specs.declared.Answer.{Answer}
 use Rattle.calls.specs.declared.StepCall.{StepCall}
-use Rattle.calls.specs.declared.StepCall.the-variants.{Swap, Fail, Due, At, By}
+use Rattle.calls.specs.declared.StepCall.the-variants.{Swap, Fail, Due, Tick, At, By}
 use Rattle.calls.specs.Answers.{Left, answerOf}
 use Rattle.calls.specs.Calls.{stepOf}
 use Rattle.calls.proofs.Left.{Refusing, left-map, left-with}
@@ -184,6 +184,7 @@ module _ (v : Volume) (small : Small v) (s : ℕ) (in-range : s < v .stripes) wh
   asked (Swap c i) value end answer fits = ap (λ (x : List ℕ). Calls.Swap c i x) (whole-value value)
   asked (Fail card) value end answer fits = ap (λ (x : List ℕ). Calls.Fail (nodeFor (v .z .n) s card) x) (card-value value (eqb-true (length value) (v .stripes * v .z .b) fits))
   asked (Due j) value end answer fits = refl
+  asked Tick value end answer fits = refl
   asked (At op c j) value end answer fits = refl
   asked (By op c) value end answer fits = refl
 

@@ -20,14 +20,14 @@ use Rattle.machine.proofs.Invariant.{Ghost, NodeOk, FinishedOk, Good}
 module _ (O : Ops) where
   open Ops O using (B)
 
-  -- es' is es with old entries gone, or done ones marked
-  record Tidied (G : Ghost) (h : Ledger B) (es es' : List Entry) : Type 0 where
+  -- es' is es with old entries gone, or done ones marked, or only ages changed
+  pub record Tidied (G : Ghost) (h : Ledger B) (es es' : List Entry) : Type 0 where
     pub listed : (x : WriteId) → isListed x es' ≡ true → isListed x es ≡ true
     pub recent : (i l : ℕ) → 1 ≤ l → l ≤ h .len i → h .done i l ≡ false → isRecentIn (G .idOf i l) es ≡ true → isRecentIn (G .idOf i l) es' ≡ true
     pub old : (i l : ℕ) → 1 ≤ l → l ≤ h .len i → isOldIn (G .idOf i l) es' ≡ true → (isOldIn (G .idOf i l) es ≡ true) ⊎ (h .done i l ≡ true)
     pub last : (i : ℕ) → lastRecent es ≡ Id (G .idOf i (h .len i)) → (lastRecent es' ≡ Id (G .idOf i (h .len i))) ⊎ (h .done i (h .len i) ≡ true)
 
-  tidied-node : (G : Ghost) (h : Ledger B) (j : ℕ) (b : B) (o : Opmode) (e : ℕ) (es es' : List Entry) →
+  pub tidied-node : (G : Ghost) (h : Ledger B) (j : ℕ) (b : B) (o : Opmode) (e : ℕ) (es es' : List Entry) →
       Tidied G h es es' → NodeOk O G h j b o e es → NodeOk O G h j b o e es'
   tidied-node G h j b o e es es' T N =
       record {

@@ -1,14 +1,7 @@
--- Aging keeps the count. Assumes nothing.
-use native.Mathlib.Omega.{arith}
+-- One entry more. Assumes nothing.
 use borrow.Author.Needs.{needs}
 use Rattle.entries.proofs.Entries.enter.Statement.{statement}
 use Rattle.entries.proofs.Entries.enter.Tie as tie
 
 pub enter-spec : {M : Type 1} → statement M
-enter-spec =
-    tie.close
-    (tie.spec
-    (λ c κs. search needs)
-    (λ c κs. search needs)
-    (λ c κs. omega (arith, c .before .older .ensures .0))
-    (λ c. rw (c .push .ensures, c .before .before .older .ensures .1, c .before .new .ensures)))
+enter-spec = tie.close (tie.spec (λ c κs. search needs) (λ c κs. search needs) (λ c. rw (c .push .ensures, c .before .new .ensures)))

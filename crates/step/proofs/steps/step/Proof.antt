@@ -5,7 +5,7 @@ use Rattle.machine.specs.Calls.{step, stepAt}
 use Rattle.machine.specs.Writing as Writing
 use Rattle.machine.specs.Failure as Failure
 use Rattle.machine.specs.Aging as Aging
-use Rattle.step.proofs.Shapes.{steps-kept, of-node, of-answer}
+use Rattle.step.proofs.Shapes.{steps-kept, steps-tick, of-node, of-answer}
 use Rattle.step.proofs.steps.step.Statement.{statement}
 use Rattle.step.proofs.steps.step.Tie as tie
 
@@ -34,16 +34,23 @@ returns-3 c =
     (Aging.due (args .z) _) (λ s. refl) (c .kept3 .ensures) (of-answer (c .before .asked .ensures) (c .before .before .due .ensures _ _ _)))
 
 returns-4 : tie.Need-returns-4
-unfolding step
 returns-4 c =
+    let args = c .before .before .before .before .before .before .before .before .args in
+    rw (c .before .before .enum-told .given .1)
+    (steps-tick (args .z) (args .seen) (args .node) (args .client) (args .value .now) (args .blocks .now) (args .spare .now) (args .differences .now) _
+    (c .ticked .ensures) (c .before .tick .ensures))
+
+returns-5 : tie.Need-returns-5
+unfolding step
+returns-5 c =
     let args = c .before .before .before .before .before .before .before .before .before .before .before .before .before .args in
     let told = c .before .before .before .before .before .before .before .call4 .given .0 in
     rw (c .before .before .before .before .before .before .before .call4 .given .1)
     (steps-kept (args .z) _ (args .seen) (args .node) (args .client) (args .value .now) (args .blocks .now) (args .spare .now) (args .differences .now) _ _ _
     (stepAt (told .0) (args .z) (told .1 .0) (told .1 .1 .0)) (λ s. refl) (c .kept4 .ensures) (c .before .before .before .at-node .ensures))
 
-returns-5 : tie.Need-returns-5
-returns-5 c =
+returns-6 : tie.Need-returns-6
+returns-6 c =
     let args = c .before .before .before .before .before .before .before .before .before .before .before .args in
     rw (c .before .before .before .before .before .call5 .given .1) (c .before .before .by-client .ensures (args .value .now) (args .differences .now))
 
@@ -67,14 +74,18 @@ step-spec =
     (λ c κs. search needs)
     (λ c. search needs)
     (λ c κs. search needs)
+    (λ c κs. search needs)
+    (λ c. search needs)
+    (λ c κs. search needs)
     (λ c. search needs)
     (λ c. search needs)
     returns
     (λ c. search needs)
     returns-2
     returns-3
-    (λ c. search needs)
-    (λ c. search needs)
     returns-4
     (λ c. search needs)
-    returns-5)
+    (λ c. search needs)
+    returns-5
+    (λ c. search needs)
+    returns-6)

@@ -16,6 +16,7 @@ is-of-each-spec =
     (λ c. search needs)
     (λ c. search needs)
     (λ c. search needs)
+    (λ c. search needs)
     (λ c κs. search needs)
     (λ c. λ value. rw (c .enum-told .given .1))
     (λ c. λ value. rw (c .enum-told2 .given .1))
@@ -23,4 +24,5 @@ is-of-each-spec =
     (λ c. λ value. rw (c .before .before .before .call .given .1, c .enum-told4 .given .1))
     (λ c. λ value. rw (c .before .before .before .call .given .1, c .enum-told5 .given .1))
     (λ c. λ value. rw (c .before .before .before .call .given .1, c .enum-told6 .given .1))
+    (λ c. λ value. rw (c .before .before .before .call .given .1, c .enum-told7 .given .1))
     (λ c. λ value. c .is-stop .ensures ∙ rw (c .before .before .before .before .before .call .given .1, c .before .before .step .given .1)))

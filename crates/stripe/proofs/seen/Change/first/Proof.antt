@@ -16,4 +16,6 @@ first-spec =
     (λ c. search needs)
     (λ c. search needs)
     (λ c. search needs)
-    (λ c. rw (c .before .before .self .given .1) (c .smaller .ensures)))
+    (λ c. search needs)
+    (λ c. rw (c .before .before .self .given .1) (c .smaller .ensures))
+    (λ c. search needs))

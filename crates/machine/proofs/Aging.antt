@@ -1,0 +1,2 @@
+-- A tick, of specs/Aging, keeps the invariant: `tick-good`, on columns.
+pub mod Tick
