@@ -1,9 +1,9 @@
 //! What a swap, an add and a whole rebuild cost on lent tables in the largest stripe, beside the same calls in plain Rust (`plain.rs`), in one run, on
-//! tables at the same places of a page.
+//! tables at the same places of a page; and a tick beside a lock.
 use plain::{Client, Node, Sizes, Stripe};
 use std::cmp::Ordering;
 use std::hint::black_box;
-use tables::{accepted, callbench_calls, one_call, proved};
+use tables::{accepted, callbench_calls, one_call, one_of_each, proved};
 use tables::{Tables, Work, ADDS, CLIENTS, DUES, K, LENGTHS, LOST, N, SWAPS};
 use timing::{best_of, met};
 
@@ -15,6 +15,16 @@ const REBUILD: Work = Work {
     number: 3,
     least: 1,
     most: 4 * N + 1,
+};
+const TICKS: Work = Work {
+    number: 6,
+    least: 1,
+    most: 256,
+};
+const LOCKS: Work = Work {
+    number: 7,
+    least: 1,
+    most: N,
 };
 
 /// So many calls with blocks of b bytes in plain Rust.
@@ -109,6 +119,16 @@ fn lines(name: &str, work: Work, plain: Plain, is_one: bool) -> [f64; 3] {
     })
 }
 
+/// ns of a tick and of a lock, where each node has 16 entries: both look at every entry.
+fn tick_and_lock() -> [f64; 2] {
+    let (mut ours, mut theirs) = (Tables::new(1), Tables::new(1));
+    one_of_each(
+        [TICKS, LOCKS],
+        |calls| proved(callbench_calls, TICKS, 0, calls, black_box(&mut ours)),
+        |calls| proved(callbench_calls, LOCKS, 0, calls, black_box(&mut theirs)),
+    )
+}
+
 fn main() {
     println!("ns            B      proved  plain Rust   ratio");
     let aims = [
@@ -124,6 +144,8 @@ fn main() {
     let due = |calls| proved(callbench_calls, DUES, 0, calls, black_box(tables));
     let [asking, _] = one_call(DUES, due, |_| ());
     println!("a call that only asks whether a node is due: {asking:.0} ns");
+    let [tick, lock] = tick_and_lock();
+    println!("with 16 entries at each node, a tick: {tick:.0} ns, a lock: {lock:.0} ns");
     println!("(12,18), 8 clients, lent tables, all in the cache. A swap is one of 8 at one node, one by each client; an add is one of 48, one by each client at each redundant node; the first call and the making of the tables are not in their time. A rebuild is 18 locks, a pick, 18 writes, 18 settles and 18 unlocks with 6 nodes lost, and the making of its tables.");
     for (name, ratios, [small, large]) in aims {
         for (b, ratio, most) in [(1, ratios[0], small), (4096, ratios[2], large)] {
@@ -131,4 +153,6 @@ fn main() {
             met(&what, ratio, &format!("at most {most}"), ratio <= most);
         }
     }
+    let ratio = tick / lock;
+    met("a tick, times a lock's", ratio, "at most 2.5", ratio <= 2.5);
 }

@@ -207,10 +207,6 @@ impl Node {
     }
 
     fn enter(&mut self, id: WriteId) {
-        let count = self.entries.count;
-        for e in &mut self.entries.items[..count] {
-            e.age = e.age.saturating_add(1);
-        }
         self.entries.push(Entry {
             id,
             old: false,

@@ -166,15 +166,27 @@ pub const ADDS: Work = Work {
     least: 1,
     most: LOST * CLIENTS,
 };
+
 /// ns of one call of either side, without the first and the making of the tables: the most calls and the fewest are timed in the same rounds.
 pub fn one_call(work: Work, ours: impl FnMut(usize), theirs: impl FnMut(usize)) -> [f64; 2] {
+    one_of_each([work, work], ours, theirs)
+}
+
+/// The same where each side has its own work.
+pub fn one_of_each(
+    works: [Work; 2],
+    ours: impl FnMut(usize),
+    theirs: impl FnMut(usize),
+) -> [f64; 2] {
     let (ours, theirs) = (RefCell::new(ours), RefCell::new(theirs));
     let times = best_of_all([
-        &mut || (ours.borrow_mut())(work.least),
-        &mut || (theirs.borrow_mut())(work.least),
-        &mut || (ours.borrow_mut())(work.most),
-        &mut || (theirs.borrow_mut())(work.most),
+        &mut || (ours.borrow_mut())(works[0].least),
+        &mut || (theirs.borrow_mut())(works[1].least),
+        &mut || (ours.borrow_mut())(works[0].most),
+        &mut || (theirs.borrow_mut())(works[1].most),
     ]);
-    let calls = (work.most - work.least) as f64;
-    [0, 1].map(|side| (times[2 + side] - times[side]) * 1e9 / calls)
+    [0, 1].map(|side| {
+        let calls = (works[side].most - works[side].least) as f64;
+        (times[2 + side] - times[side]) * 1e9 / calls
+    })
 }
