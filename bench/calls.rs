@@ -99,24 +99,37 @@ fn plain_rebuild(calls: usize, b: usize, tables: &mut Tables) {
     });
 }
 
-/// Lines of the table, which say the times of one call or of all. Both sides leave the same bytes. Returns the ratios.
+/// On nodes with 16 entries each.
+fn plain_ticks(calls: usize, b: usize, tables: &mut Tables) {
+    let z = sizes(b);
+    let (nodes, clients) = (&mut [Node::full(); N], &mut [Client::fresh(); CLIENTS]);
+    plainly(tables, nodes, clients, |stripe, _| {
+        for _ in 0..calls {
+            accepted(stripe.tick(&z));
+        }
+    });
+}
+
+/// A line of the table, which says the times of one call or of all. Both sides leave the same bytes. Returns the ratio.
+fn line(name: &str, work: Work, plain: Plain, is_one: bool, b: usize) -> f64 {
+    let (mut ours, mut theirs) = (Tables::new(b), Tables::new(b));
+    proved(callbench_calls, work, 0, work.most, &mut ours);
+    plain(work.most, b, &mut theirs);
+    assert!(ours.bytes() == theirs.bytes());
+    let mut ours = |calls| proved(callbench_calls, work, 0, calls, black_box(&mut ours));
+    let mut theirs = |calls| plain(calls, b, black_box(&mut theirs));
+    let [proved, plain] = if is_one {
+        one_call(work, ours, theirs)
+    } else {
+        best_of(|| ours(work.most), || theirs(work.most)).map(|seconds| seconds * 1e9)
+    };
+    let ratio = proved / plain;
+    println!("{name:<8}{b:>6}{proved:>12.0}{plain:>12.0}{ratio:>8.2}");
+    ratio
+}
+
 fn lines(name: &str, work: Work, plain: Plain, is_one: bool) -> [f64; 3] {
-    LENGTHS.map(|b| {
-        let (mut ours, mut theirs) = (Tables::new(b), Tables::new(b));
-        proved(callbench_calls, work, 0, work.most, &mut ours);
-        plain(work.most, b, &mut theirs);
-        assert!(ours.bytes() == theirs.bytes());
-        let mut ours = |calls| proved(callbench_calls, work, 0, calls, black_box(&mut ours));
-        let mut theirs = |calls| plain(calls, b, black_box(&mut theirs));
-        let [proved, plain] = if is_one {
-            one_call(work, ours, theirs)
-        } else {
-            best_of(|| ours(work.most), || theirs(work.most)).map(|seconds| seconds * 1e9)
-        };
-        let ratio = proved / plain;
-        println!("{name:<8}{b:>6}{proved:>12.0}{plain:>12.0}{ratio:>8.2}");
-        ratio
-    })
+    LENGTHS.map(|b| line(name, work, plain, is_one, b))
 }
 
 /// ns of a tick and of a lock, where each node has 16 entries: both look at every entry.
@@ -140,13 +153,14 @@ fn main() {
             [2.8, 1.6],
         ),
     ];
+    line("tick", TICKS, plain_ticks, true, 1);
     let tables = &mut Tables::new(1);
     let due = |calls| proved(callbench_calls, DUES, 0, calls, black_box(tables));
     let [asking, _] = one_call(DUES, due, |_| ());
     println!("a call that only asks whether a node is due: {asking:.0} ns");
     let [tick, lock] = tick_and_lock();
     println!("with 16 entries at each node, a tick: {tick:.0} ns, a lock: {lock:.0} ns");
-    println!("(12,18), 8 clients, lent tables, all in the cache. A swap is one of 8 at one node, one by each client; an add is one of 48, one by each client at each redundant node; the first call and the making of the tables are not in their time. A rebuild is 18 locks, a pick, 18 writes, 18 settles and 18 unlocks with 6 nodes lost, and the making of its tables.");
+    println!("(12,18), 8 clients, lent tables, all in the cache. A swap is one of 8 at one node, one by each client; an add is one of 48, one by each client at each redundant node; the first call and the making of the tables are not in their time. A rebuild is 18 locks, a pick, 18 writes, 18 settles and 18 unlocks with 6 nodes lost, and the making of its tables. A tick is one of 256 on nodes with 16 entries each.");
     for (name, ratios, [small, large]) in aims {
         for (b, ratio, most) in [(1, ratios[0], small), (4096, ratios[2], large)] {
             let what = format!("{name} at {b} on lent tables, times plain Rust's");

@@ -123,6 +123,10 @@ impl<T: Copy + Default, const N: usize> List<T, N> {
         &self.items[..self.count]
     }
 
+    fn get_mut(&mut self) -> &mut [T] {
+        &mut self.items[..self.count]
+    }
+
     fn is_full(&self) -> bool {
         self.count >= N
     }
@@ -174,6 +178,19 @@ impl Node {
         Node::empty(Opmode::Init)
     }
 
+    /// With as many entries as there may be, all recent.
+    pub fn full() -> Self {
+        let mut node = Node::fresh();
+        for number in 0..ENTRIES as u32 {
+            node.enter(WriteId {
+                client: 1,
+                position: 1,
+                number,
+            });
+        }
+        node
+    }
+
     fn empty(opmode: Opmode) -> Self {
         Node {
             opmode,
@@ -212,6 +229,12 @@ impl Node {
             old: false,
             age: 0,
         });
+    }
+
+    fn tick(&mut self) {
+        for e in self.entries.get_mut().iter_mut().filter(|e| !e.old) {
+            e.age = e.age.saturating_add(1);
+        }
     }
 
     fn last_recent(&self) -> Option<WriteId> {
@@ -644,9 +667,22 @@ impl Stripe<'_> {
         0
     }
 
+    fn are_nodes_within(&self, z: &Sizes) -> bool {
+        self.are_tables_within(z) && self.nodes.iter().all(|node| node.is_within(z))
+    }
+
+    #[inline(never)]
+    pub fn tick(&mut self, z: &Sizes) -> Number {
+        if !self.are_nodes_within(z) {
+            return 1;
+        }
+        self.nodes.iter_mut().for_each(Node::tick);
+        0
+    }
+
     /// The tests that every call of a rebuild begins with: 1, then 2.
     fn admitted(&self, z: &Sizes, c: u8) -> Result<usize, Number> {
-        if !self.are_tables_within(z) || !self.nodes.iter().all(|node| node.is_within(z)) {
+        if !self.are_nodes_within(z) {
             return Err(1);
         }
         let by = usize::from(c).wrapping_sub(1);
