@@ -9,5 +9,6 @@ pub mod Sizes
 pub mod Limits
 pub mod Bits
 pub mod Members
+pub mod SetBits
 pub mod Demand2
 pub mod Determined

@@ -1,8 +1,10 @@
 // Sets of nodes.
 ghost use mathlib.Core.Bool.{cond};
 ghost use mathlib.Core.Path.{_≡_};
-ghost use Prim.Native.Nat.{ℕ, _≤_};
+ghost use Prim.Native.Nat.{ℕ, suc, _≤_};
 ghost use lib.ListN.{getD};
+ghost use Rattle.basics.specs.Lists.{listOf};
+ghost use Rattle.code.specs.Bits.{bitsOf};
 ghost use Rattle.code.specs.Code.{nodeLimit};
 ghost use Rattle.code.specs.Decode;
 ghost use Rattle.code.specs.View.{nodeSetOf};
@@ -78,6 +80,14 @@ impl NodeSet {
         } else {
             self.without(j)
         }
+    }
+
+    // The nodes 1 to n of the set as a number.
+    pub fn first_bits(self, n: usize) -> u32
+        requires { ⌜ n ≤ nodeLimit ⌝ }
+        ensures { λ r. ⌜ r ≡ bitsOf (listOf n (λ i. Decode.has (nodeSetOf self) (suc i))) ⌝ }
+    {
+        self.bits % (1u32 << n)
     }
 
     pub fn size(self) -> usize

@@ -1,0 +1,5 @@
+pub mod Records
+pub mod Image
+pub mod Reading
+pub mod Claims
+pub mod Places
