@@ -1,0 +1,5 @@
+pub mod Laws
+pub mod Items
+pub mod Writable
+pub mod Header
+pub mod Written
