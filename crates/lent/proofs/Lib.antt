@@ -2,6 +2,7 @@ pub mod Changing
 pub mod Elem
 pub mod Entry
 pub mod Frees
+pub mod GatherEntry
 pub mod Gathering
 pub mod Local
 pub mod Pure

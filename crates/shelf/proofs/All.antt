@@ -1,71 +1,52 @@
--- All records of the nodes' table are taken out. Assumes nothing.
---     all-ends     the loop ends within the table.        all-took     what is taken
-use mathlib.Core.Bool.{Bool, true, false, cond}
+-- All records of the nodes' table are taken out, and of the clients'. Assumes nothing.
+--     all-ends, records-ends       the loop ends within the table, and within the array
+--     all-took, records-took       what is taken
 use mathlib.Core.List.{List}
-use mathlib.Core.Path.{_≡_, refl, sym, ap, _∙_}
-use Prim.Native.Nat.{ℕ, zero, suc, _+_, _-_, _<_, _≤_}
-use native.Mathlib.Decide.{ℕ-discrete}
-use native.Mathlib.Omega.{arith}
-use lib.Dec.{leb}
-use lib.ListN.{length, getD, set, length-set, length-map, List·getD-map}
-use lib.Seq.{ext-getD, getD-set-same, getD-set-other}
-use borrow.Author.Tests.{le-leb}
+use mathlib.Core.Path.{_≡_, refl, _∙_}
+use Prim.Native.Nat.{ℕ, _-_, _≤_}
+use lib.ListN.{length}
 use denote.Laws.{Is}
 use mir.Val.{Val}
-use Rattle.basics.proofs.Lists.{length-listOf, getD-listOf}
 use Rattle.lent.specs.Ranges.{seenIn}
+use Rattle.records.specs.declared.ClientRecord.{ClientRecord}
 use Rattle.records.specs.declared.NodeRecord.{NodeRecord}
-use Rattle.records.specs.Node.{Node}
-use Rattle.records.specs.View.{nodeOf}
-use Rattle.stripe.specs.View.{blankRecord, recordAt, nodesOf}
+use Rattle.records.specs.View.{clientOf, nodeOf}
+use Rattle.step.specs.View.{blankClient}
+use Rattle.step.proofs.Records.{eight}
+use Rattle.stripe.specs.View.{blankRecord}
 use Rattle.stripe.proofs.NodeLists.{eighteen}
+use Rattle.taking.specs.declared.AllRecords.{AllRecords}
 use Rattle.taking.specs.declared.AllTaken.{AllTaken}
 use Rattle.taking.specs.declared.Found.{Found}
+use Rattle.taking.specs.Images.{ClientsTook, clientsBegun, clientsEnd, clientsSeen}
 use Rattle.taking.specs.Picks.{AllTook, allBegun, allEnd, allSeen}
-use Rattle.taking.specs.Table.{nodesIn}
-use Rattle.taking.proofs.AllTaken.{the-row}
+use Rattle.taking.proofs.AllRecords as records
+use Rattle.taking.proofs.AllTaken as all
+use Rattle.shelf.proofs.Gathers.{ends, inside, whole, kept, gathered}
 
-pub all-ends : (f : Found) (len : ℕ) (t : AllTaken) → allBegun f len t → allEnd t ≤ len
-all-ends f len t b = rw (← b .0) (by (leb (t .len) 18))
-  where
-    by : (u : Bool) → cond u (t .len) 0 ≤ t .len
-    by true = omega arith
-    by false = omega arith
+pub all-ends : (f : Found) (len : ℕ) (t : AllTaken) → allBegun f len t → (allEnd t ≤ len) × (allEnd t ≤ 18)
+all-ends f len t b = (ends 18 (t .len) len (b .0), inside 18 (t .len))
 
-module _ (ys : List NodeRecord) (t : AllTaken) (b : length (t .nodes .items) ≡ 18) where
-  abbrev at : ℕ → AllTaken
-  at k = seenIn allSeen blankRecord t ys 0 k
-
-  at-len : (k : ℕ) → at k .len ≡ t .len
-  at-len zero = refl
-  at-len (suc k) = at-len k
-
-  at-long : (k : ℕ) → length (at k .nodes .items) ≡ 18
-  at-long zero = b
-  at-long (suc k) = length-set (at k .nodes .items) (0 + k) (getD ys (0 + k) blankRecord) ∙ at-long k
-
-  at-item : (k p : ℕ) → p < k → p < 18 → recordAt (at k .nodes) p ≡ getD ys p blankRecord
-  at-item zero p h l = absurd (omega (arith, h))
-  at-item (suc k) p h l = by (at-long k) (λ less. at-item k p less l) (ℕ-discrete p (0 + k))
-    where
-      by : length (at k .nodes .items) ≡ 18 → (p < k → recordAt (at k .nodes) p ≡ getD ys p blankRecord) → Dec (p ≡ 0 + k)
-          → getD (set (at k .nodes .items) (0 + k) (getD ys (0 + k) blankRecord)) p blankRecord ≡ getD ys p blankRecord
-      by long before (yes e) = rw e (getD-set-same (at k .nodes .items) (0 + k) (getD ys (0 + k) blankRecord) blankRecord (omega (arith, long, e, l)))
-      by long before (no ne) = getD-set-other (at k .nodes .items) (0 + k) p (getD ys (0 + k) blankRecord) blankRecord ne ∙ before (omega (arith, h, ne))
-
-pub all-eighteen : (t : AllTaken) (vs : List Val) → Is the-row t vs → length (t .nodes .items) ≡ 18
+pub all-eighteen : (t : AllTaken) (vs : List Val) → Is all.the-row t vs → length (t .nodes .items) ≡ 18
 all-eighteen t vs g = eighteen (t .nodes) _ (g .1 .1 .1 .0)
 
 pub all-took : (ys : List NodeRecord) (f : Found) (t : AllTaken) → allBegun f (length ys) t → AllTook ys f (seenIn allSeen blankRecord t ys 0 (allEnd t - 0))
-all-took ys f t b = record { len = at-len ys t (b .1) (allEnd t - 0) ∙ b .0; items = λ few. are few (allEnd t - 0) (ends few) }
-  where
-    ends : length ys ≤ 18 → allEnd t - 0 ≡ length ys
-    ends few = rw (b .0, le-leb (length ys) 18 few) (omega arith)
+all-took ys f t b = record {
+  len = kept allSeen blankRecord ys t (λ x. x .len) (λ x i r. refl) (allEnd t - 0) ∙ b .0;
+  items = λ few. gathered allSeen blankRecord ys t 18 (λ x. x .nodes .items) (λ x i r. refl) (b .1) nodeOf (allEnd t - 0) (whole 18 (t .len) (length ys) (b .0) few) few;
+}
 
-    are : length ys ≤ 18 → (k : ℕ) → k ≡ length ys → nodesOf (length ys) (at ys t (b .1) k .nodes) ≡ nodesIn ys
-    are few k e =
-        let node-at : ℕ → Node = λ i. nodeOf (recordAt (at ys t (b .1) k .nodes) i) in
-        ext-getD (nodeOf blankRecord) (nodesOf (length ys) (at ys t (b .1) k .nodes)) (nodesIn ys) (length-listOf (length ys) node-at ∙ sym (length-map ys nodeOf))
-        (λ i h. let inside : i < length ys = omega (arith, length-listOf (length ys) node-at, h) in
-        getD-listOf (length ys) node-at i (nodeOf blankRecord) inside
-        ∙ ap nodeOf (at-item ys t (b .1) k i (omega (arith, e, inside)) (omega (arith, few, inside))) ∙ sym (List·getD-map nodeOf ys i blankRecord))
+pub records-ends : (t : AllTaken) (len : ℕ) (x : AllRecords) → clientsBegun t len x → (clientsEnd x ≤ len) × (clientsEnd x ≤ 8)
+records-ends t len x b = (ends 8 (x .len) len (b .0), inside 8 (x .len))
+
+pub records-eight : (x : AllRecords) (vs : List Val) → Is records.the-row x vs → length (x .clients .items) ≡ 8
+records-eight x vs g = eight (x .clients) _ (g .1 .1 .1 .0)
+
+pub records-took : (ys : List ClientRecord) (t : AllTaken) (x : AllRecords) → clientsBegun t (length ys) x
+    → ClientsTook ys t (seenIn clientsSeen blankClient x ys 0 (clientsEnd x - 0))
+records-took ys t x b = record {
+  len = kept clientsSeen blankClient ys x (λ y. y .len) (λ y i r. refl) (clientsEnd x - 0) ∙ b .0;
+  items = λ few. gathered clientsSeen blankClient ys x 8 (λ y. y .clients .items) (λ y i r. refl) (b .1 .0) clientOf (clientsEnd x - 0)
+      (whole 8 (x .len) (length ys) (b .0) few) few;
+  taken = kept clientsSeen blankClient ys x (λ y. y .taken) (λ y i r. refl) (clientsEnd x - 0) ∙ b .1 .1;
+}

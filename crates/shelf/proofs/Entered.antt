@@ -6,18 +6,25 @@ use lib.ListN.{length}
 use Rattle.calls.proofs.Answer as answer
 use Rattle.calls.proofs.Left.{left-map}
 use Rattle.calls.specs.Calls.{caller}
+use Rattle.lent.proofs.GatherEntry as gather-entry
 use Rattle.lent.proofs.ReadEntry as read-entry
 use Rattle.lent.proofs.StepEntry.{Implied}
+use Rattle.records.specs.declared.Sizes.{Sizes}
 use Rattle.records.specs.View.{clientOf, nodeOf}
+use Rattle.records.proofs.ClientRecord as client
+use Rattle.records.proofs.Sizes as sizes
+use Rattle.taking.specs.declared.Found.{Found}
 use Rattle.taking.specs.declared.Looked.{Looked}
 use Rattle.taking.specs.declared.PickRequest.{PickRequest}
 use Rattle.taking.specs.declared.ReadRequest.{ReadRequest}
 use Rattle.taking.specs.declared.Request.{Request}
 use Rattle.taking.specs.declared.Sought.{Sought}
 use Rattle.taking.specs.declared.TakenClient.{TakenClient}
+use Rattle.taking.specs.Images.{ClientsTook, ImagesAll}
 use Rattle.taking.specs.Picks.{AllTook, PickedAll, PicksAll}
 use Rattle.taking.specs.Step.{ReadsFound, StepsFound, soughtFor}
 use Rattle.taking.specs.Table.{ClientTaken, NodeFound, NodesSeen}
+use Rattle.taking.proofs.AllRecords as records
 use Rattle.taking.proofs.AllTaken as all
 use Rattle.taking.proofs.Found as found
 use Rattle.taking.proofs.Lists.{map-set}
@@ -25,9 +32,9 @@ use Rattle.taking.proofs.PickRequest as pick-request
 use Rattle.taking.proofs.ReadRequest as read-request
 use Rattle.taking.proofs.Request as request
 use Rattle.taking.proofs.Returned as returned
-use Rattle.shelf.specs.Shelf.{PicksLent, PicksOnly, ReadsLent, StepsLent}
+use Rattle.shelf.specs.Shelf.{ImagesLent, PicksLent, PicksOnly, ReadsLent, StepsLent}
 use Rattle.shelf.proofs.Lists.{set-past}
-use Rattle.shelf.proofs.Types.{all-rec, found-rec, pick-request-rec, read-request-rec, request-rec, answer-rec, returned-parts, seen-nodes, nodes, node-back, others-back, pick-back, pick-others, clients, clients-back}
+use Rattle.shelf.proofs.Types.{all-nodes, all-rec, client-rec, found-rec, pick-request-rec, read-request-rec, records-rec, request-rec, answer-rec, returned-parts, sizes-rec, seen-nodes, nodes, node-back, others-back, pick-back, pick-others, clients, clients-back}
 
 abbrev pub CalledBy : Request → ℕ → Type 0
 CalledBy q c = c ≡ caller (q .call)
@@ -83,3 +90,11 @@ entered-pick ns ms ns′ cs cs′ b s d v b′ s′ d′ q vc vt vp vw vx vr c t
           said = rw (others .nodes-are (all-is .len ∙ x .1 .1 .len ∙ sym lens), same, put, map-set clientOf cs (r .0 .client .c) (r .0 .client .client)) (m .said);
           left = left-map (r .0 .answer) (λ h. (others .same (h .0) ∙ same, put ∙ h .1)) (m .left);
         }
+
+-- no node is looked for
+abbrev pub NoneSought : Sizes → Found → Type 0
+NoneSought z f = f .looked .sought .j ≡ 0
+
+pub entered-image : gather-entry.Implied all-nodes client.the-row records.the-row client-rec records-rec ClientsTook sizes.the-row answer.the-row sizes-rec answer-rec
+    NoneSought ImagesAll ImagesLent
+entered-image ns cs out b d s out′ z vp vw vx vr p w x r = r .1 .1 ns cs (p .0) (w .0) (w .1 .1) (x .1 .1)

@@ -13,8 +13,13 @@ use Rattle.records.proofs.ClientRecord as client
 use Rattle.records.proofs.ClientRecord.Laws as client-laws
 use Rattle.records.proofs.NodeRecord as node
 use Rattle.records.proofs.NodeRecord.Laws as node-laws
+use Rattle.records.proofs.Sizes as sizes
+use Rattle.records.proofs.Sizes.Laws as sizes-laws
+use Rattle.taking.specs.Images.{ClientsTook}
 use Rattle.taking.specs.Picks.{AllTook}
 use Rattle.taking.specs.Table.{ClientTaken, NodeFound, NodesSeen}
+use Rattle.taking.proofs.AllRecords as records
+use Rattle.taking.proofs.AllRecords.Laws as records-laws
 use Rattle.taking.proofs.AllTaken as all
 use Rattle.taking.proofs.AllTaken.Laws as all-laws
 use Rattle.taking.proofs.Back as back
@@ -56,6 +61,12 @@ pick-request-rec = rec-struct pick-request.the-type pick-request-laws.the-laws p
 
 abbrev pub all-rec : Rec all.the-row
 all-rec = rec-struct all.the-type all-laws.the-laws all-laws.the-copy all-laws.the-plain (λ _. tt) (λ _ _. refl)
+
+abbrev pub records-rec : Rec records.the-row
+records-rec = rec-struct records.the-type records-laws.the-laws records-laws.the-copy records-laws.the-plain (λ _. tt) (λ _ _. refl)
+
+abbrev pub sizes-rec : Rec sizes.the-row
+sizes-rec = rec-struct sizes.the-type sizes-laws.the-laws sizes-laws.the-copy sizes-laws.the-plain (λ _. tt) (λ _ _. refl)
 
 abbrev pub sought-rec : Rec sought.the-row
 sought-rec = rec-struct sought.the-type sought-laws.the-laws sought-laws.the-copy sought-laws.the-plain (λ _. tt) (λ _ _. refl)
@@ -123,3 +134,7 @@ clients = record { S = client.the-row; P = u8; X = taken.the-row; s = client-rec
 
 abbrev pub clients-back : Back clients
 clients-back = record { Y = taken.the-row; y = taken-rec; Puts = PutClient }
+
+-- and all of them
+abbrev pub all-clients : Side
+all-clients = record { S = client.the-row; P = all.the-row; X = records.the-row; s = client-rec; p = all-rec; x = records-rec; Took = ClientsTook }

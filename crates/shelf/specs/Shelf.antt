@@ -6,9 +6,11 @@ use Prim.Native.Nat.{ℕ}
 use Rattle.calls.specs.declared.Answer.{Answer}
 use Rattle.calls.specs.Answers.{Meets}
 use Rattle.calls.specs.Calls.{stepOf}
+use Rattle.imaging.specs.Imaging.{written}
 use Rattle.machine.specs.Calls.{Pick}
 use Rattle.records.specs.declared.ClientRecord.{ClientRecord}
 use Rattle.records.specs.declared.NodeRecord.{NodeRecord}
+use Rattle.records.specs.declared.Sizes.{Sizes}
 use Rattle.records.specs.Client.{Client}
 use Rattle.step.specs.Steps.{stripeWith}
 use Rattle.taking.specs.declared.PickRequest.{PickRequest}
@@ -45,3 +47,8 @@ abbrev pub PicksOnly : List NodeRecord → List ClientRecord → List ℕ → Li
     → List NodeRecord → List ClientRecord → List ℕ → List ℕ → List ℕ → Type 0
 PicksOnly nodes clients blocks spare differences value q answer nodes′ clients′ blocks′ spare′ differences′ =
     (blocks′ ≡ blocks) × ((differences′ ≡ differences) × PicksLent nodes clients spare blocks q answer nodes′ clients′ spare′)
+
+-- an image writes the buffer that is lent, and nothing else
+abbrev pub ImagesLent : List NodeRecord → List ClientRecord → List ℕ → List ℕ → List ℕ → List ℕ → Sizes → Answer → List ℕ → Type 0
+ImagesLent nodes clients out blocks differences spare z answer out′ =
+    Meets (written z (stripeIn nodes clients blocks spare differences) out) answer [] out′ (out′ ≡ out)

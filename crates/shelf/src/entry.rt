@@ -1,15 +1,18 @@
 // The entry points. Each is walked by a law.
-ghost use Rattle.shelf.specs.Shelf.{PicksOnly, StepsLent, ReadsLent};
+ghost use Rattle.shelf.specs.Shelf.{ImagesLent, PicksOnly, StepsLent, ReadsLent};
 use crate::table::look;
 use crate::table::put_back;
 use crate::table::put_client;
 use crate::table::put_others;
 use crate::table::take_all;
 use crate::table::take_client;
+use crate::table::take_clients;
 use crate::table::take_node;
 use calls::Answer;
 use records::ClientRecord;
 use records::NodeRecord;
+use records::Sizes;
+use taking::Found;
 use taking::PickRequest;
 use taking::ReadRequest;
 use taking::Request;
@@ -71,4 +74,23 @@ pub fn pick(
     put_others(nodes, r.others);
     put_client(clients, r.client);
     r.answer
+}
+
+// The image of the stripe, into out (docs/IMAGE.md). Nothing else is written.
+pub fn image(
+    nodes: &[NodeRecord],
+    clients: &[ClientRecord],
+    out: &mut [u8],
+    blocks: &[u8],
+    differences: &[u8],
+    spare: &[u8],
+    z: Sizes,
+) -> Answer
+    ensures { λ r. ⌜ ImagesLent (now (nodes .entry)) (now (clients .entry)) (now (out .entry)) (now (blocks .entry)) (now (differences .entry))
+        (now (spare .entry)) z r (now (out .exit)) ⌝ }
+{
+    let none = Found::none(z);
+    let taken = take_all(nodes, none);
+    let records = take_clients(clients, taken);
+    records.image(out, blocks, differences, spare, z)
 }

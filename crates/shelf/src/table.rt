@@ -1,9 +1,11 @@
 // A table is looked at, and changed. Each of these is walked by a law.
+ghost use Rattle.taking.specs.Images.{ClientsTook};
 ghost use Rattle.taking.specs.Picks.{AllTook};
 ghost use Rattle.taking.specs.Table.{ClientTaken, NodesSeen, NodeFound};
 ghost use Rattle.shelf.specs.Table.{PutBack, PutOthers, PutClient};
 use records::ClientRecord;
 use records::NodeRecord;
+use taking::AllRecords;
 use taking::AllTaken;
 use taking::Back;
 use taking::Found;
@@ -83,6 +85,21 @@ pub(crate) fn take_all(nodes: &[NodeRecord], found: Found) -> AllTaken
         i = i + 1;
     }
     taken
+}
+
+pub(crate) fn take_clients(clients: &[ClientRecord], taken: AllTaken) -> AllRecords
+    ensures { λ r. ⌜ ClientsTook (now (clients .entry)) taken r ⌝ }
+{
+    let len = clients.len();
+    let mut all = AllRecords::begin(taken, len);
+    let mut i = all.first();
+    let end = all.end();
+    while i < end {
+        let client = clients[i];
+        all.clients.items[i] = client;
+        i = i + 1;
+    }
+    all
 }
 
 pub(crate) fn put_back(nodes: &mut [NodeRecord], back: Back)

@@ -1,4 +1,5 @@
 pub mod Cases
 pub mod Lists
+pub mod OneImage
 pub mod OnePick
 pub mod OneStep

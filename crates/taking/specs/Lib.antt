@@ -1,3 +1,4 @@
+pub mod Images
 pub mod Lent
 pub mod Picks
 pub mod Ranges

@@ -1,4 +1,5 @@
 // A call on the records that were taken out of their tables: what is looked for, the step by value, what is put back. The tables are in crate shelf.
+mod images; // images.rt: an image, of the records of all nodes and all clients
 mod picks; // picks.rt: a pick, on the records of all nodes
 mod records_at; // records_at.rt: a record that is taken out of its table, and put back
 mod steps; // steps.rt: the call on what was taken out
@@ -8,6 +9,7 @@ use calls::StepCall;
 use records::ClientRecord;
 use records::NodeRecord;
 use records::Sizes;
+use step::Clients;
 use stripe::Change;
 use stripe::Nodes;
 use stripe::Seen;
@@ -63,6 +65,13 @@ pub struct Found {
 pub struct AllTaken {
     pub len: usize,
     pub nodes: Nodes,
+}
+
+// All records of a table of `len` clients too, if they are 8 at most.
+pub struct AllRecords {
+    pub len: usize,
+    pub clients: Clients,
+    pub taken: AllTaken,
 }
 
 // Node j's record, which is put back.
