@@ -1,10 +1,13 @@
 // An answer, and what is returned with it, as text.
+mod images; // images.rt: the image of a stripe
+
 ghost use Prim.Native.Nat.{_≤_};
 ghost use Rattle.records.specs.Sizes.{clientLimit};
 use calls::Answer;
 use format::lists::put_id;
 use format::lists::put_set;
 use format::nodes::put_modes;
+pub use images::put_image;
 use records::CheckAnswer;
 use records::ClientRecord;
 use records::Finding;

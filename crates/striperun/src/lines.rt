@@ -3,6 +3,7 @@ ghost use mathlib.Core.Path.{_≡_};
 ghost use Prim.Native.Nat.{_*_, _≤_};
 ghost use Rattle.format.specs.Tables.{Within, Tables};
 ghost use Rattle.records.specs.Sizes.{nodeLimit, blockLimit};
+use super::next_line::Order;
 use super::next_line::Taken;
 use super::next_line::take_line;
 use super::show::put_played;
@@ -29,10 +30,10 @@ fn least(a: usize, b: usize) -> usize
     if a < b { a } else { b }
 }
 
-// A line's call. The value has room for one byte more than a block: a longer one is then refused for its length.
+// A line's call, if it has one: an image is no call. The value has room for one byte more than a block: a longer one is then refused for its length.
 fn play(
     z: Sizes,
-    line: Line,
+    order: Order,
     value: &[u8],
     stripe: Stripe,
     blocks: &mut [u8],
@@ -40,31 +41,37 @@ fn play(
     differences: &mut [u8],
     shown: &mut [u8],
 ) -> Played {
-    match line {
-        Line::Unreadable => Played {
-            answer: Answer::Refused(Refusal::OutOfLimits),
+    match order {
+        Order::Image => Played {
+            answer: Answer::Accepted,
             stripe: stripe,
         },
-        Line::Play(call, count) => {
-            let end = least(count, value.len());
-            step::play(
-                z,
-                call,
-                &value[0..end],
-                stripe,
-                blocks,
-                spare,
-                differences,
-                shown,
-            )
-        }
+        Order::Call(line) => match line {
+            Line::Unreadable => Played {
+                answer: Answer::Refused(Refusal::OutOfLimits),
+                stripe: stripe,
+            },
+            Line::Play(call, count) => {
+                let end = least(count, value.len());
+                step::play(
+                    z,
+                    call,
+                    &value[0..end],
+                    stripe,
+                    blocks,
+                    spare,
+                    differences,
+                    shown,
+                )
+            }
+        },
     }
 }
 
-// A line's call, and the line that is printed of it.
+// What a line asks for, and the line that is printed of it.
 fn step(
     z: Sizes,
-    line: Line,
+    order: Order,
     value: &[u8],
     before: State,
     out: &mut [u8],
@@ -76,12 +83,12 @@ fn step(
     requires { ⌜ Tables z (now blocks) ⌝ }
 {
     let stripe = before.stripe;
-    let played = play(z, line, value, stripe, blocks, spare, differences, shown);
+    let played = play(z, order, value, stripe, blocks, spare, differences, shown);
     let at = put_played(
         out,
         before.at,
         z,
-        line,
+        order,
         played,
         blocks,
         spare,
@@ -92,7 +99,7 @@ fn step(
     State { stripe, at }
 }
 
-// Each line's call, on a fresh stripe whose tables are lent.
+// What each line asks for, on a fresh stripe whose tables are lent.
 fn play_lent(
     z: Sizes,
     mut input: Input,
@@ -114,10 +121,10 @@ fn play_lent(
                 flush(out, state.at);
                 return;
             }
-            Taken::Line(line, rest) => {
+            Taken::Line(order, rest) => {
                 state = step(
                     z,
-                    line,
+                    order,
                     value,
                     state,
                     out,

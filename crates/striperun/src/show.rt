@@ -1,6 +1,10 @@
-// What is printed of a call: `ANSWER RETURNED | STATE`.
+// What is printed of a line: `ANSWER RETURNED | STATE`.
+ghost use Prim.Native.Nat.{_≤_};
 ghost use Rattle.format.specs.Tables.{Tables};
+ghost use Rattle.records.specs.Sizes.{clientLimit};
+use super::next_line::Order;
 use answers::put_answer;
+use answers::put_image;
 use calls::Call;
 use format::state::put_state;
 use records::Sizes;
@@ -19,12 +23,35 @@ fn picker(line: Line) -> u8 {
     c
 }
 
-// The line of a call.
+// The answer, and what is returned with it.
+fn put_returned(
+    out: &mut [u8],
+    at: usize,
+    z: Sizes,
+    order: Order,
+    played: Played,
+    blocks: &[u8],
+    spare: &[u8],
+    differences: &[u8],
+    shown: &[u8],
+) -> usize
+    requires { ⌜ z .m ≤ clientLimit ⌝ }
+{
+    let answer = played.answer;
+    let stripe = played.stripe;
+    let clients = stripe.clients;
+    match order {
+        Order::Image => put_image(out, at, z, stripe, blocks, spare, differences),
+        Order::Call(line) => put_answer(out, at, z.m, picker(line), answer, clients, shown),
+    }
+}
+
+// The line of a call or of an image.
 pub fn put_played(
     out: &mut [u8],
     mut at: usize,
     z: Sizes,
-    line: Line,
+    order: Order,
     played: Played,
     blocks: &[u8],
     spare: &[u8],
@@ -33,11 +60,10 @@ pub fn put_played(
 ) -> usize
     requires { ⌜ Tables z (now blocks) ⌝ }
 {
-    let answer = played.answer;
     let stripe = played.stripe;
     let nodes = stripe.nodes;
     let clients = stripe.clients;
-    at = put_answer(out, at, z.m, picker(line), answer, clients, shown);
+    at = put_returned(out, at, z, order, played, blocks, spare, differences, shown);
     at = put_text(out, at, b" | ");
     put_state(out, at, z, nodes, clients, blocks, spare, differences)
 }
