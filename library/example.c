@@ -1,4 +1,4 @@
-/* Encodes four blocks, loses three of the seven, decodes and compares; then places blocks and nodes. What the library computes is
+/* Encodes four blocks, loses three of the seven, decodes and compares; then places blocks and nodes, and asks for lengths of images. What the library computes is
    checked by a product bit by bit, and by counting. */
 #include "mezgaudre.h"
 
@@ -105,6 +105,28 @@ static int cards_agree(void)
     return 1;
 }
 
+/* The length of an image: a header and the sizes, 140 bytes a node, 135 a client, two blocks a node and one a client. */
+static size_t image_length(size_t n, size_t b, size_t m)
+{
+    size_t length = 4 + 6 * 8 + 8;
+    for (size_t j = 0; j < n; j++)
+        length += 140 + 2 * b;
+    for (size_t c = 0; c < m; c++)
+        length += 135 + b;
+    return length;
+}
+
+static int image_lengths_agree(void)
+{
+    for (size_t m = 1; m <= 8; m++)
+        for (size_t k = 2; k <= 12; k++)
+            for (size_t n = k + 1; n <= k + 6 && n <= 2 * k; n++)
+                for (size_t b = 1; b <= 4096; b *= 8)
+                    if (mezgaudre_image_length(k, n, b, n - k, m) != image_length(n, b, m))
+                        return 0;
+    return 1;
+}
+
 int main(void)
 {
     for (unsigned i = 0; i < K; i++)
@@ -139,5 +161,9 @@ int main(void)
     expect(cards_agree(), "the cards of 1,000 stripes");
     expect(mezgaudre_block_stripe(13, 30) == 0 && mezgaudre_block_position(13, 30) == 0, "no stripe has 13 data blocks");
     expect(mezgaudre_card(N, 0, N + 1) == 0 && mezgaudre_node_on(N, 0, 0) == 0, "there is no node 8 and no card 0");
+
+    expect(image_lengths_agree(), "the lengths of images");
+    expect(mezgaudre_image_length(12, 18, 4096, 6, 8) == 183884, "the longest image");
+    expect(mezgaudre_image_length(12, 18, 4096, 7, 8) == 0, "no stripe of 18 nodes plans for 7 failures");
     return 0;
 }

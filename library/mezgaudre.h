@@ -1,4 +1,4 @@
-/* Mezgaudre's erasure code over GF(256) and a volume's layout, proved: link with libexports.a, which `rt staticlib exports` makes.
+/* Mezgaudre's erasure code over GF(256), a volume's layout and the length of a stripe's image, proved: link with libexports.a, which `rt staticlib exports` makes.
 
    A pointer, not null, and the number of bytes behind it stand for a buffer. The caller lends buffers that hold that many bytes,
    and one that a call writes overlaps no other. No call asks more than that: wrong sizes and lengths have their answers. */
@@ -51,6 +51,10 @@ uint8_t mezgaudre_block_position(size_t k, size_t b);
    cards are counted from 1; 0 where n is more than 18, or the node or the card is not 1 to n. */
 uint8_t mezgaudre_card(size_t n, size_t s, uint8_t j);
 uint8_t mezgaudre_node_on(size_t n, size_t s, uint8_t card);
+
+/* How many bytes the image of a stripe has (docs/IMAGE.md), by its sizes: failures are those planned for, 0 to n - k, and m is the
+   number of clients, 1 to 8. 0 where the sizes are outside the limits. */
+size_t mezgaudre_image_length(size_t k, size_t n, size_t b, size_t failures, size_t m);
 
 #ifdef __cplusplus
 }

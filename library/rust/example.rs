@@ -1,6 +1,8 @@
-//! Encodes four blocks, loses three of the seven, decodes and compares; then places blocks and nodes. What the library computes is
-//! checked by a product bit by bit, and by counting.
-use mezgaudre::{add_times, block_home, card, decode, encode, node_on, product, Answer, Home};
+//! Encodes four blocks, loses three of the seven, decodes and compares; then places blocks and nodes, and asks for lengths of
+//! images. What the library computes is checked by a product bit by bit, and by counting.
+use mezgaudre::{
+    add_times, block_home, card, decode, encode, image_length, node_on, product, Answer, Home,
+};
 
 const K: usize = 4;
 const N: usize = 7;
@@ -77,6 +79,23 @@ fn cards_agree() -> bool {
     })
 }
 
+/// The length of an image: a header and the sizes, 140 bytes a node, 135 a client, two blocks a node and one a client.
+fn expected_image_length(n: usize, b: usize, m: usize) -> usize {
+    4 + 6 * 8 + 8 + n * (140 + 2 * b) + m * (135 + b)
+}
+
+fn image_lengths_agree() -> bool {
+    (1..=8).all(|m| {
+        (2..=12).all(|k| {
+            (k + 1..=(k + 6).min(2 * k)).all(|n| {
+                [1, 8, 64, 512, 4096].into_iter().all(|b| {
+                    image_length(k, n, b, n - k, m) == Some(expected_image_length(n, b, m))
+                })
+            })
+        })
+    })
+}
+
 fn main() {
     let mut table: Vec<u8> = (0..N * B)
         .map(|q| (q % B * (q % B) / 7 + 31 * (q % B) + 97 * (q / B)) as u8)
@@ -131,5 +150,15 @@ fn main() {
     expect(
         card(N, 0, N as u8 + 1).is_none() && node_on(N, 0, 0).is_none(),
         "there is no node 8 and no card 0",
+    );
+
+    expect(image_lengths_agree(), "the lengths of images");
+    expect(
+        image_length(12, 18, 4096, 6, 8) == Some(183_884),
+        "the longest image",
+    );
+    expect(
+        image_length(12, 18, 4096, 7, 8).is_none(),
+        "no stripe of 18 nodes plans for 7 failures",
     );
 }

@@ -1,5 +1,5 @@
-//! Mezgaudre's erasure code over GF(256) and a volume's layout, proved, for safe Rust. The library tests every size and length
-//! itself, and answers what is wrong with them, so these functions take any arguments.
+//! Mezgaudre's erasure code over GF(256), a volume's layout and the length of a stripe's image, proved, for safe Rust. The library
+//! tests every size and length itself, and answers what is wrong with them, so these functions take any arguments.
 
 /// What encoding and decoding answer. Only `Accepted` has written to the buffer lent for the result.
 #[derive(Clone, Copy, Debug, PartialEq, Eq)]
@@ -57,6 +57,7 @@ extern "C" {
     fn mezgaudre_block_position(k: usize, b: usize) -> u8;
     fn mezgaudre_card(n: usize, s: usize, j: u8) -> u8;
     fn mezgaudre_node_on(n: usize, s: usize, card: u8) -> u8;
+    fn mezgaudre_image_length(k: usize, n: usize, b: usize, failures: usize, m: usize) -> usize;
 }
 
 impl Answer {
@@ -140,4 +141,11 @@ pub fn card(n: usize, s: usize, j: u8) -> Option<u8> {
 /// The node of stripe s that is on the card, of n. `None` where n is more than 18, or the card is not 1 to n.
 pub fn node_on(n: usize, s: usize, card: u8) -> Option<u8> {
     counted(unsafe { mezgaudre_node_on(n, s, card) })
+}
+
+/// How many bytes the image of a stripe has (docs/IMAGE.md), by its sizes: `failures` are those planned for, 0 to n - k, and m is
+/// the number of clients, 1 to 8. `None` where the sizes are outside the limits.
+pub fn image_length(k: usize, n: usize, b: usize, failures: usize, m: usize) -> Option<usize> {
+    let length = unsafe { mezgaudre_image_length(k, n, b, failures, m) };
+    (length != 0).then_some(length)
 }

@@ -3,8 +3,9 @@ ghost use mathlib.Core.Path.{_≡_};
 ghost use Rattle.gf256.specs.Field.{product};
 ghost use Rattle.code.specs.Calls.{encoding, decoding};
 ghost use Rattle.layout.specs.Layout.{homeOf, cardFor, nodeFor};
-ghost use Rattle.exports.specs.Exports.{sizeIn, answerOf, answered, added};
+ghost use Rattle.exports.specs.Exports.{sizeIn, answerOf, answered, added, imageLengthOf};
 use code::CodeAnswer;
+use records::Sizes;
 
 // The size that the answer gives.
 fn size_in(a: CodeAnswer) -> u8
@@ -102,4 +103,25 @@ pub extern "C" fn mezgaudre_node_on(n: usize, s: usize, card: u8) -> u8
     ensures { λ r. ⌜ r ≡ nodeFor n s card ⌝ }
 {
     layout::node_on(n, s, card)
+}
+
+// The length of a stripe's image; 0 for sizes outside the limits, which have none.
+#[no_mangle]
+pub extern "C" fn mezgaudre_image_length(
+    k: usize,
+    n: usize,
+    b: usize,
+    failures: usize,
+    m: usize,
+) -> usize
+    ensures { λ r. ⌜ r ≡ imageLengthOf (record { k = k; n = n; b = b; failures = failures; m = m }) ⌝ }
+{
+    let z = Sizes {
+        k: k,
+        n: n,
+        b: b,
+        failures: failures,
+        m: m,
+    };
+    image::length(z)
 }
