@@ -1,10 +1,11 @@
 //! What a swap, an add and a whole rebuild cost on lent tables in the largest stripe, beside the same calls in plain Rust (`plain.rs`), in one run, on
-//! tables at the same places of a page; and a tick beside a lock.
+//! tables at the same places of a page; a tick beside a lock; and an image beside a copy of the three tables.
+use mezgaudre::image_length;
 use plain::{Client, Node, Sizes, Stripe};
 use std::cmp::Ordering;
 use std::hint::black_box;
 use tables::{accepted, callbench_calls, one_call, one_of_each, proved};
-use tables::{Tables, Work, ADDS, CLIENTS, DUES, K, LENGTHS, LOST, N, SWAPS};
+use tables::{Buffer, Tables, Work, ADDS, CLIENTS, DUES, K, LENGTHS, LOST, N, SWAPS};
 use timing::{best_of, met};
 
 mod plain;
@@ -26,6 +27,28 @@ const LOCKS: Work = Work {
     least: 1,
     most: N,
 };
+
+const IMAGES: Work = Work {
+    number: 0, // images are no work of callbench_calls
+    least: 1,
+    most: 64,
+};
+
+#[link(name = "callbench", kind = "static")]
+extern "C" {
+    fn callbench_images(
+        calls: usize,
+        b: usize,
+        blocks: *const u8,
+        blocks_length: usize,
+        differences: *const u8,
+        differences_length: usize,
+        spare: *const u8,
+        spare_length: usize,
+        out: *mut u8,
+        out_length: usize,
+    ) -> u8;
+}
 
 /// So many calls with blocks of b bytes in plain Rust.
 type Plain = fn(usize, usize, &mut Tables);
@@ -142,6 +165,57 @@ fn tick_and_lock() -> [f64; 2] {
     )
 }
 
+/// So many images into one buffer. Safety: each pointer and its length come from one slice, and the slices do not overlap.
+fn images(calls: usize, tables: &mut Tables, out: &mut [u8]) {
+    let b = tables.b;
+    let [blocks, spare, differences] = tables.bytes();
+    accepted(unsafe {
+        callbench_images(
+            calls,
+            b,
+            blocks.as_ptr(),
+            blocks.len(),
+            differences.as_ptr(),
+            differences.len(),
+            spare.as_ptr(),
+            spare.len(),
+            out.as_mut_ptr(),
+            out.len(),
+        )
+    });
+}
+
+/// So many copies of the three tables, one after the other, into the end of the buffer, where an image has them: memcpy.
+fn copies(calls: usize, tables: &mut Tables, out: &mut [u8]) {
+    for _ in 0..calls {
+        let [blocks, spare, differences] = tables.bytes();
+        let mut end = out.len();
+        for table in [&*spare, &*differences, &*blocks] {
+            let start = end - table.len();
+            out[start..end].copy_from_slice(black_box(table));
+            end = start;
+        }
+        black_box(&mut *out);
+    }
+}
+
+/// ns of an image, and of a copy of the three tables, at blocks of 4,096 bytes. Both leave the same bytes there.
+fn image_and_copy() -> [f64; 2] {
+    let b = LENGTHS[2];
+    let length = image_length(K, N, b, LOST, CLIENTS).unwrap();
+    let (mut ours, mut theirs) = (Tables::new(b), Tables::new(b));
+    let (mut image, mut copy) = (Buffer::new(length, 0, 0), Buffer::new(length, 0, 0));
+    images(1, &mut ours, image.get());
+    copies(1, &mut theirs, copy.get());
+    let tables = length - (2 * N + CLIENTS) * b;
+    assert!(image.get()[tables..] == copy.get()[tables..]);
+    one_of_each(
+        [IMAGES, IMAGES],
+        |calls| images(calls, black_box(&mut ours), black_box(image.get())),
+        |calls| copies(calls, black_box(&mut theirs), black_box(copy.get())),
+    )
+}
+
 fn main() {
     println!("ns            B      proved  plain Rust   ratio");
     let aims = [
@@ -160,6 +234,8 @@ fn main() {
     println!("a call that only asks whether a node is due: {asking:.0} ns");
     let [tick, lock] = tick_and_lock();
     println!("with 16 entries at each node, a tick: {tick:.0} ns, a lock: {lock:.0} ns");
+    let [image, copy] = image_and_copy();
+    println!("an image at 4096: {image:.0} ns, a memcpy of its three tables: {copy:.0} ns");
     println!("(12,18), 8 clients, lent tables, all in the cache. A swap is one of 8 at one node, one by each client; an add is one of 48, one by each client at each redundant node; the first call and the making of the tables are not in their time. A rebuild is 18 locks, a pick, 18 writes, 18 settles and 18 unlocks with 6 nodes lost, and the making of its tables. A tick is one of 256 on nodes with 16 entries each.");
     for (name, ratios, [small, large]) in aims {
         for (b, ratio, most) in [(1, ratios[0], small), (4096, ratios[2], large)] {
@@ -169,4 +245,11 @@ fn main() {
     }
     let ratio = tick / lock;
     met("a tick, times a lock's", ratio, "at most 2.5", ratio <= 2.5);
+    let ratio = image / copy;
+    met(
+        "an image at 4096, times a memcpy of its three tables",
+        ratio,
+        "at most 1.5",
+        ratio <= 1.5,
+    );
 }

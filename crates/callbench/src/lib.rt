@@ -1,4 +1,6 @@
-// Calls on lent tables, one after another, for the benchmark to time: by the entry points of one stripe, and by that of a volume.
+// Calls on lent tables, one after another, for the benchmark to time: by the entry points of one stripe, and by that of a volume. And images of a stripe
+// by value.
+mod images; // images.rt: images of a stripe by value
 mod runs; // runs.rt: the calls
 mod starts; // starts.rt: what each kind of work begins with
 mod turns; // turns.rt: which call is next

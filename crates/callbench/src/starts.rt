@@ -29,7 +29,7 @@ fn writing_client(c: u8) -> ClientRecord {
 }
 
 // All clients with such a write.
-fn writing() -> Clients {
+pub(crate) fn writing() -> Clients {
     let mut clients = Clients::fresh();
     for c in 1..9u8 {
         clients = clients.set(8, c, writing_client(c));
@@ -66,10 +66,21 @@ fn full_node() -> NodeRecord {
     node
 }
 
-fn full() -> Nodes {
+pub(crate) fn full() -> Nodes {
     let node = full_node();
     let items = [node; Sizes::NODES];
     Nodes { items }
+}
+
+// The largest stripe of 8 clients, with blocks of b bytes.
+pub(crate) fn largest(b: usize) -> Sizes {
+    Sizes {
+        k: 12,
+        n: 18,
+        b: b,
+        failures: 6,
+        m: 8,
+    }
 }
 
 impl Work {
@@ -135,13 +146,7 @@ impl Work {
 
     // So many calls with blocks of b bytes, in that stripe of so many.
     fn start(self, left: usize, b: usize, stripes: usize, stripe: usize) -> Run {
-        let z = Sizes {
-            k: 12,
-            n: 18,
-            b: b,
-            failures: 6,
-            m: 8,
-        };
+        let z = largest(b);
         Run {
             z: z,
             stripes: stripes,
