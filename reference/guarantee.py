@@ -214,7 +214,7 @@ def check_random(seed, calls):
             raise
         rebuilds += history.rebuilds
         sizes = lines[0].decode()
-        print(f"seed {seed}: sizes {sizes}: {len(lines) - 1} calls, {history.rebuilds} rebuilds finished")
+        print(f"seed {seed}: sizes {sizes}: {len(lines) - 1} lines, {history.rebuilds} rebuilds finished")
         seed += 1
     print(f"{calls} calls, {rebuilds} rebuilds finished, demand 3 holds")
 

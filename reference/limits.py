@@ -2,10 +2,11 @@
 
 Document 01 answers 1 for a record outside the limits but does not spell the
 limits out; these are the team's. Here no record comes from outside, so that
-they serve as a check of the machine only.
+they serve as a check of the machine, and refuse what has no image (image.py).
 """
 
-from stripe import EXP, INIT, L0, L1, LOCKING, MAX_EPOCH, MAX_WRITES, NORM, PICKING, RECONS, UNL
+from stripe import EXP, INIT, L0, L1, LOCKING, MAX_EPOCH, MAX_WRITES, NORM, PICKING, RECONS, SETTLING, UNL
+from stripe import UNLOCKING, WRITING
 
 
 def id_within(id, sizes):
@@ -21,7 +22,7 @@ def node_within(node, sizes):
     return (
         node.opmode in (NORM, RECONS, INIT)
         and node.lmode in (UNL, L0, L1, EXP)
-        and (1 <= node.holder <= sizes.m if is_held else node.holder is None)
+        and (node.holder in range(1, sizes.m + 1) if is_held else node.holder is None)
         and 0 <= node.epoch <= MAX_EPOCH
         and set_within(node.rset, sizes)
         and len(node.entries) <= 16
@@ -31,8 +32,8 @@ def node_within(node, sizes):
 
 def hand_within(hand, sizes):
     return (
-        1 <= hand.position <= sizes.k
-        and id_within(hand.id, sizes)
+        id_within(hand.id, sizes)
+        and hand.position == hand.id.position
         and (hand.previous is None or id_within(hand.previous, sizes))
         and 0 <= hand.epoch <= MAX_EPOCH
         and set_within(hand.done, sizes)
@@ -46,7 +47,12 @@ def rebuild_within(rebuild, sizes):
     if rebuild.phase == PICKING:
         first = sizes.n + 1 - len(rebuild.untightened)
         return first > sizes.k and rebuild.untightened == list(range(first, sizes.n + 1))
-    return 0 <= rebuild.count < sizes.n and set_within(rebuild.chosen, sizes) and 0 <= rebuild.E < MAX_EPOCH
+    return (
+        rebuild.phase in (WRITING, SETTLING, UNLOCKING)
+        and 0 <= rebuild.count < sizes.n
+        and set_within(rebuild.chosen, sizes)
+        and 0 <= rebuild.E < MAX_EPOCH
+    )
 
 
 def client_within(client, sizes):
@@ -67,4 +73,15 @@ def within(stripe):
     sizes = stripe.sizes
     return all(node_within(node, sizes) for node in stripe.nodes.values()) and all(
         client_within(client, sizes) for client in stripe.clients.values()
+    )
+
+
+def tables_within(stripe):
+    """Of n nodes and m clients there is a record each, and the bytes are as many as the sizes say."""
+    _, n, B, _, m = stripe.sizes
+    return (
+        list(stripe.nodes) == list(range(1, n + 1))
+        and list(stripe.clients) == list(range(1, m + 1))
+        and len(stripe.blocks) == len(stripe.spare) == n * B
+        and len(stripe.differences) == m * B
     )

@@ -8,8 +8,9 @@
 The author of a script drives the machine, so that it knows what is plausible
 next: most rebuilds that begin also finish, and stops, failures, resumed
 rebuilds, full lists and late adds occur often. Where the program knows ticks,
-nodes come due by age, and ages reach 255. The same options give the same
-script.
+nodes come due by age, and ages reach 255. Now and then, and at the end, a line
+M asks for the image, which only striperun shows. The same options give the
+same script.
 """
 
 import argparse
@@ -18,11 +19,12 @@ import random
 import sys
 from collections import Counter
 
+from answers import ACCEPTED
 from script import FORMS, SHELF_FORMS, answer_of, read_call
 from shelfrun import SIZES as SHELF_SIZES
 from stripe import EXP, LOCKING, NORM, PICKING, SETTLING, UNLOCKING, WRITING
 from stripe import Entry, Node, Sizes
-from striperun import new_stripe
+from striperun import IMAGE_LINE, new_stripe
 
 LETTERS = {name: letter for letter, (name, _, _) in FORMS.items()}
 WITH_NUMBERS = [name for name, count, _ in FORMS.values() if count > 0]
@@ -69,8 +71,12 @@ class Author:
     def play(self, line):
         """Makes the call of the line. A damaged line may hold an LF."""
         for part in line.split(b"\n"):
-            answer = answer_of(self.stripe, read_call(part, self.forms))
-            self.answers[answer.number] += 1
+            self.answers[self.answer(part).number] += 1
+
+    def answer(self, line):
+        if line == IMAGE_LINE and self.forms is FORMS:
+            return ACCEPTED
+        return answer_of(self.stripe, read_call(line, self.forms))
 
     def lines(self, count):
         """In the last tenth, calls that nothing restores are let through."""
@@ -85,6 +91,9 @@ class Author:
         if self.chance(self.damaged):
             return damage(self.rng, self.plausible_call())
         return self.next_call()
+
+    def image_line(self, rng):
+        return IMAGE_LINE
 
     def next_call(self):
         if self.chance(0.02):
@@ -610,6 +619,24 @@ def played(author, lines):
         yield line
 
 
+# how many of the lines are followed by one that asks for the image
+IMAGES = 0.02
+
+
+def with_images(author, lines, seed, damaged=0.1):
+    """The author's lines, with lines for the image in between and at the end. Damaged: the share of these.
+
+    Where they stand goes by numbers of their own, so that the lines are the same without them.
+    """
+    rng = random.Random(f"images {seed}")
+    for line in lines:
+        yield line
+        if rng.random() < IMAGES:
+            asked = author.image_line(rng)
+            yield from played(author, [damage(rng, asked) if rng.random() < damaged else asked])
+    yield from played(author, [author.image_line(rng)])
+
+
 def stripe_author(rng, sizes):
     return Author(new_stripe(sizes), rng, damaged=0.03, arbitrary=0.05)
 
@@ -623,11 +650,13 @@ def stripe_script(seed, calls, sizes=None):
     rng = random.Random(seed)
     sizes = sizes or random_sizes(rng)
     yield " ".join(map(str, sizes)).encode()
-    yield from stripe_author(rng, sizes).lines(calls)
+    author = stripe_author(rng, sizes)
+    yield from with_images(author, author.lines(calls), seed)
 
 
 def shelf_script(seed, count):
-    yield from shelf_author(random.Random(seed)).lines(count)
+    author = shelf_author(random.Random(seed))
+    yield from with_images(author, author.lines(count), seed)
 
 
 def main():
@@ -653,7 +682,7 @@ def main():
     if options.long:
         for line in played(author, LONG[options.long]()):
             out.write(line + b"\n")
-    for line in author.lines(options.calls):
+    for line in with_images(author, author.lines(options.calls), options.seed):
         out.write(line + b"\n")
     if options.count:
         print(dict(sorted(author.answers.items())), file=sys.stderr)

@@ -1,32 +1,40 @@
-"""Wrong machines and wrong volumes: who notices them.
+"""Wrong machines, wrong volumes and wrong writers of images: who notices them.
 
-Each mutant is the text of stripe.py, or of volume.py, with one edit. A mutant
-is noticed by a list if the output of striperun, or of volumerun, differs from
-that without the edit. A stripe's mutants with a list of their own break the
-claim of guarantee.py, which must say so on that list; those of ages are
-noticed by their own list only. A volume's mutants are noticed by their own
-list, and by each stripe's calls made alone on it (takenout.py); those of its
-limits by their own list only.
+Each mutant is the text of stripe.py, of volume.py or of image.py, with one
+edit. A mutant is noticed by a list if the output of striperun, or of
+volumerun, differs from that without the edit. A stripe's mutants with a list
+of their own break the claim of guarantee.py, which must say so on that list;
+those of ages are noticed by their own list only. A volume's mutants are
+noticed by their own list, and by each stripe's calls made alone on it
+(takenout.py); those of its limits by their own list only. An image's mutants
+are noticed by their own list, which has M lines; those that go wrong with a
+buffer of another length, or with what is outside the limits, by calls that
+must be refused.
 
     mutants.py [--seed S] [--lists N]
 """
 
 import argparse
+import copy
 import types
 from pathlib import Path
 from typing import NamedTuple
 
 import guarantee
+import image
 import lists
 import striperun
 import takenout
 import volumelists
 import volumerun
-from script import spelled_out
+from answers import Answer
+from script import answer_of, read_call, spelled_out
+from stripe import Rebuild, Sizes, WriteId
 
 FOLDER = Path(__file__).parent
 STRIPE = (FOLDER / "stripe.py").read_text()
 VOLUME = (FOLDER / "volume.py").read_text()
+IMAGE = (FOLDER / "image.py").read_text()
 
 
 class Unnoticed(Exception):
@@ -485,6 +493,174 @@ VOLUME_LIMITS = [
 ]
 
 
+# Lists for an image's mutants.
+WRITTEN = "2 4 1 1 2, S 1 1 01, S 2 1 02, M"
+SWEPT = "2 4 1 1 2, S 1 1 01, A 1 3, A 1 4, S 2 1 02, G 1 x12, M"
+RELOCKED = "2 4 1 1 2, L 1 x2, Q 1, L 2 x3, M"
+PICKED = "2 4 1 1 2, L 1 x4, P 1, W 1 x4, T 1 x4, U 1 x4, L 1 x4, P 1, W 1"
+
+IMAGE_MUTANTS = [
+    Mutant("high byte first", '"little")\n\n\ndef set_word', '"big")\n\n\ndef set_word', "2 4 1 1 2, M"),
+    # Slots that a program keeps past the count, as shifting up leaves them, or as the buffer had them.
+    Mutant(
+        "a slot past the count copied",
+        'b"".join(parts).ljust(',
+        'b"".join(parts + parts[-1:])[: count * width].ljust(',
+        SWEPT,
+    ),
+    Mutant(
+        "zeros not written",
+        "    buffer[: len(image)] = image\n",
+        "    buffer[: len(image)] = bytes(new or old for new, old in zip(image, buffer))\n",
+        "2 4 1 1 2, M",
+    ),
+    Mutant("no count of a list", "return byte(len(parts)) + ", "return byte(0) + ", WRITTEN),
+    Mutant(
+        "entries from the last",
+        "for entry in node.entries]",
+        "for entry in node.entries[::-1]]",
+        WRITTEN,
+    ),
+    Mutant("the previous id left out", "byte(1) + id_bytes(previous)", "byte(1) + bytes(ID)", WRITTEN),
+    Mutant(
+        "that there is a previous id left out",
+        "byte(1) + id_bytes(previous)",
+        "byte(0) + id_bytes(previous)",
+        WRITTEN,
+    ),
+    Mutant("an empty hand's bytes left out", "        return bytes(22)\n", "        return b''\n", "2 4 1 1 2, M"),
+    *[
+        Mutant(
+            f"{first} and {second} exchanged",
+            f"        bytes(stripe.{first}),\n        bytes(stripe.{second}),\n",
+            f"        bytes(stripe.{second}),\n        bytes(stripe.{first}),\n",
+            "2 4 1 1 2, M",
+        )
+        for first, second in [("blocks", "differences"), ("differences", "spare")]
+    ],
+    Mutant("offsets from the header's end", "    offset = HEADER\n", "    offset = 0\n", "2 4 1 1 2, M"),
+    Mutant(
+        "marks dropped",
+        "byte(0 if entry.recent else 1)",
+        "byte(0)",
+        "2 4 1 1 2, S 1 1 01, A 1 3, A 1 4, G 1 x8, M",
+    ),
+    Mutant("ages dropped", "byte(entry.age)", "byte(0)", "2 4 1 1 2, S 1 1 01, K, M"),
+    Mutant("holders dropped", "node.holder or 0]", "0]", RELOCKED),
+    Mutant("rsets dropped", "set_word(node.rset)", "set_word([])", f"{PICKED}, M"),
+    Mutant("sets from bit 1", "1 << (j - 1) for", "1 << j for", WRITTEN),
+    Mutant("remembered lmodes dropped", "if lmode == EXP}", "if False}", RELOCKED),
+    Mutant(
+        "how many nodes are locked dropped",
+        "        node = rebuild.count\n",
+        "        node = 0\n",
+        RELOCKED,
+    ),
+    Mutant(
+        "lmodes remembered past the lock phase",
+        "    if phase == WRITING:\n",
+        "    if phase == PICKING:\n"
+        "        members = {j for j, lmode in enumerate(rebuild.old_lmodes, start=1) if lmode == EXP}\n"
+        "    if phase == WRITING:\n",
+        "2 4 1 1 2, L 1 x2, Q 1, L 2 x4, M",
+    ),
+    Mutant(
+        "untightened nodes dropped",
+        "        node = min(rebuild.untightened, default=0)\n",
+        "        node = 0\n",
+        "2 4 1 1 2, L 1 x4, O 1, I 1, M",
+    ),
+    Mutant(
+        "the node before the next one",
+        "        node = rebuild.count + 1\n",
+        "        node = rebuild.count\n",
+        f"{PICKED}, M",
+    ),
+    Mutant("the set picked dropped", "        members = rebuild.chosen\n", "        pass\n", f"{PICKED}, M"),
+    Mutant(
+        "the set picked kept past its phase",
+        "    if phase == WRITING:\n",
+        "    if phase in (WRITING, SETTLING):\n",
+        f"{PICKED}, W 1 x3, T 1, M",
+    ),
+    Mutant(
+        "E in the write phase only",
+        "if phase in (WRITING, SETTLING):",
+        "if phase == WRITING:",
+        f"{PICKED}, W 1 x3, M",
+    ),
+    Mutant(
+        "E kept past its phases",
+        "if phase in (WRITING, SETTLING):",
+        "if phase in (WRITING, SETTLING, UNLOCKING):",
+        f"{PICKED}, W 1 x3, T 1 x4, M",
+    ),
+    Mutant("rounds dropped", "byte(client.sweeps)", "byte(0)", "2 4 1 1 2, G 1, M"),
+    Mutant(
+        "finished and moved exchanged",
+        "for ids in (client.finished, client.moved))",
+        "for ids in (client.moved, client.finished))",
+        "2 4 1 1 2, S 1 1 01, A 1 3, A 1 4, M",
+    ),
+]
+
+IMAGE_REFUSALS = [
+    Mutant(
+        "a longer buffer accepted",
+        "len(buffer) != length(stripe.sizes)",
+        "len(buffer) < length(stripe.sizes)",
+    ),
+    Mutant(
+        "a shorter buffer accepted",
+        "len(buffer) != length(stripe.sizes)",
+        "len(buffer) > length(stripe.sizes)",
+    ),
+    Mutant(
+        "a refused call that wrote the header",
+        "        return Answer(1)\n",
+        "        buffer[: HEADER] = header([bytes(length) for length in lengths(stripe.sizes)])[: len(buffer)]\n"
+        "        return Answer(1)\n",
+    ),
+    Mutant(
+        "a refused call that cleared the buffer",
+        "        return Answer(1)\n",
+        "        buffer[:] = bytes(len(buffer))\n"
+        "        return Answer(1)\n",
+    ),
+    Mutant("sizes not looked at", "stripe.sizes.permitted() and ", ""),
+    Mutant("lengths of tables not looked at", "limits.tables_within(stripe) and ", ""),
+    Mutant("records not looked at", " and limits.within(stripe)", ""),
+]
+
+
+# Edits of a stripe of k=2, n=4, B=1, t_d=1, m=2 that leave it outside the limits; client 1 writes, client 2 locks.
+OUTSIDE = [
+    *[f"stripe.sizes = Sizes{sizes}" for sizes in [(2, 4, 1, 3, 2), (4, 4, 1, 0, 2), (1, 4, 1, 1, 2)]],
+    *[f"stripe.{table}.append(0)" for table in ["blocks", "spare", "differences"]],
+    *[f"stripe.{table}.pop()" for table in ["blocks", "spare", "differences"]],
+    *[f"stripe.{records}.popitem()" for records in ["nodes", "clients"]],
+    *[f"stripe.{records}[{number}] = stripe.{records}[1]" for records, number in [("nodes", 5), ("clients", 3)]],
+    *["stripe.nodes[3].opmode = 'UNL'", "stripe.nodes[3].lmode = 'NORM'"],
+    *["stripe.nodes[3].holder = 1", "stripe.nodes[3].holder = 0"],
+    *[f"stripe.nodes[1].holder = {holder}" for holder in (3, 0, None)],
+    *["stripe.nodes[3].epoch = 1_000_001", "stripe.nodes[3].rset = {5}", "stripe.nodes[3].rset = {0}"],
+    *["stripe.nodes[1].entries *= 17", "stripe.nodes[1].entries[0].age = 256"],
+    *[f"stripe.nodes[1].entries[0].id = WriteId{id}" for id in [(3, 1, 0), (0, 1, 0), (1, 3, 0), (1, 1, 1_000_000)]],
+    *["stripe.clients[1].hand.position = 2", "stripe.clients[1].hand.id = WriteId(3, 1, 0)"],
+    *["stripe.clients[1].hand.previous = WriteId(1, 3, 0)", "stripe.clients[1].hand.epoch = 1_000_001"],
+    *["stripe.clients[1].hand.done = {1, 5}", "stripe.clients[1].finished = [WriteId(1, 1, 0)] * 8"],
+    *["stripe.clients[2].finished = [WriteId(1, 1, 0)] * 9", "stripe.clients[2].moved = [WriteId(1, 1, 0)] * 9"],
+    *["stripe.clients[2].finished = [WriteId(0, 1, 0)]", "stripe.clients[2].moved = [WriteId(1, 0, 0)]"],
+    *["stripe.clients[2].sweeps = 8", "stripe.clients[2].next_number = 1_000_001"],
+    *["stripe.clients[2].rebuild.count = 2", "stripe.clients[2].rebuild.old_lmodes = ['L0']"],
+    *[f"stripe.clients[2].rebuild = Rebuild('lock', {count}, ['UNL'] * {count})" for count in (0, 4)],
+    *[f"stripe.clients[2].rebuild = Rebuild('pick', untightened={nodes})" for nodes in ([3], [2, 3, 4])],
+    *[f"stripe.clients[2].rebuild = Rebuild('{phase}', 4)" for phase in ("write", "settle", "unlock")],
+    *["stripe.clients[2].rebuild = Rebuild('write', 0, chosen={5})", "stripe.clients[2].rebuild = Rebuild('none', 0)"],
+    *[f"stripe.clients[2].rebuild = Rebuild('{phase}', 0, E=1_000_000)" for phase in ("write", "settle")],
+]
+
+
 def mutated(mutant, source=STRIPE):
     """The module with the mutant's edit."""
     if source.count(mutant.old) != 1:
@@ -531,6 +707,72 @@ def volume_differs(module, lines):
     return unequal(volumerun.run(lines), volumerun.run(lines, module.Volume))
 
 
+def image_differs(module, lines):
+    """Whether striperun's output differs, with another writer of images."""
+    return unequal(striperun.run(lines), striperun.run(lines, write=module.write))
+
+
+def stripes_shown(lines):
+    """A copy of the stripe at each M of a list."""
+    sizes, *lines = lines
+    stripe = striperun.new_stripe(striperun.read_sizes(sizes))
+    shown = []
+    for line in lines:
+        if line == striperun.IMAGE_LINE:
+            shown.append(copy.deepcopy(stripe))
+        answer_of(stripe, read_call(line))
+    return shown
+
+
+def writes_otherwise(module, stripes):
+    return any(striperun.image_shown(s, module.write) != striperun.image_shown(s, image.write) for s in stripes)
+
+
+def misreads(module, stripes):
+    """Whether some image is not read back as the state it is of."""
+    return not all(is_read_back(module, stripe) for stripe in stripes)
+
+
+def is_read_back(module, stripe):
+    buffer = bytearray(striperun.IMAGE_BYTE * image.length(stripe.sizes))
+    if not module.write(stripe, buffer).accepted:
+        return False
+    try:
+        return image.state(image.read(bytes(buffer))) == image.state(stripe)
+    except (image.NoImage, AssertionError, IndexError):
+        return False
+
+
+def refuses(module):
+    """Whether the writer refuses what it must, and leaves the buffer as it was."""
+    return all(is_refused(module, stripe, length) for stripe, length in refused())
+
+
+def is_refused(module, stripe, length):
+    before = striperun.IMAGE_BYTE * length
+    buffer = bytearray(before)
+    try:
+        answer = module.write(stripe, buffer)
+    except Exception:
+        return False
+    return answer == Answer(1) and buffer == before
+
+
+def refused():
+    """Stripes and lengths of buffers: lengths that are another image's or none, then what is outside the limits."""
+    for sizes in [Sizes(2, 3, 1, 1, 1), Sizes(2, 4, 3, 1, 2), Sizes(12, 18, 4096, 6, 8)]:
+        stripe = striperun.new_stripe(sizes)
+        length = image.length(sizes)
+        for other in [0, 1, image.HEADER, length - 1, length + 1, length + 140, 2 * length]:
+            yield stripe, other
+    for edit in OUTSIDE:
+        stripe = striperun.new_stripe(Sizes(2, 4, 1, 1, 2))
+        for line in spelled_out("S 1 1 01, L 2"):
+            answer_of(stripe, read_call(line))
+        exec(edit)
+        yield stripe, image.length(stripe.sizes)
+
+
 def unequal(expected, got):
     return any(a != b for a, b in zip(expected, got))
 
@@ -571,10 +813,15 @@ def check_own_lists():
         check_noticed(mutant, VOLUME, volume_differs)
     for mutant in VOLUME_MUTANTS:
         check_noticed(mutant, VOLUME, goes_apart)
+    for mutant in IMAGE_MUTANTS:
+        check_noticed(mutant, IMAGE, image_differs)
+    for mutant in IMAGE_REFUSALS:
+        if refuses(mutated(mutant, IMAGE)):
+            raise Unnoticed(mutant.name)
 
 
 def main():
-    options = argparse.ArgumentParser(description="wrong machines and who notices them")
+    options = argparse.ArgumentParser(description="wrong machines, volumes and images, and who notices them")
     options.add_argument("--seed", type=int, default=1)
     options.add_argument("--lists", type=int, default=20)
     options = options.parse_args()
@@ -584,6 +831,8 @@ def main():
     check_own_lists()
     names = unnoticed(MUTANTS + AGE_MUTANTS, STRIPE, scripts, differs, breaks_claim, "break the claim")
     names += unnoticed(VOLUME_MUTANTS, VOLUME, volume_scripts, volume_differs, goes_apart, "go apart")
+    shown = [stripes_shown(lines) for lines in scripts]
+    names += unnoticed(IMAGE_MUTANTS, IMAGE, shown, writes_otherwise, misreads, "are not read back")
     if names:
         raise Unnoticed(", ".join(names))
 

@@ -1,8 +1,10 @@
 """Tests of the second implementation; exits with an error on any difference."""
 
 import random
+import re
 import time
 from collections import Counter
+from hashlib import blake2b
 from itertools import combinations, product
 from pathlib import Path
 
@@ -10,6 +12,8 @@ import code
 import codecheck
 import field
 import guarantee
+import image
+import kinds
 import limits
 import lists
 import mutants
@@ -20,12 +24,13 @@ import volumelists
 import volumerun
 from answers import ACCEPTED, Answer
 from script import answer_of, lines_of, read_call, read_volume_call, spelled_out
-from stripe import EXP, INIT, L0, L1, MAX_EPOCH, MAX_WRITES, NORM, PICKING, RECONS, UNL
-from stripe import Entry, Node, Rebuild, Sizes, WriteId
-from striperun import new_stripe
+from stripe import EXP, INIT, L0, L1, LOCKING, MAX_EPOCH, MAX_WRITES, NORM, PICKING, RECONS, UNL
+from stripe import Client, Entry, Hand, Node, Rebuild, Sizes, WriteId
+from striperun import IMAGE_BYTE, IMAGE_LINE, new_stripe
 from volume import VolumeSizes, card_of, home, node_on
 
 EXAMPLES = Path(__file__).parent / "examples"
+IMAGE_DOCUMENT = (Path(__file__).parent.parent / "docs" / "IMAGE.md").read_text()
 
 
 class Difference(Exception):
@@ -316,7 +321,7 @@ UNREADABLE = [
     *[b"r 1", b"X 1", b"1 R", b"R +1", b"R -1", b"R 0x1", b"R 1.0", b"R 1_0", b"R one", b"Z 1", b"Z 4"],
     *[b"S 1 1", b"S 1 01", b"S 1 1 1", b"S 1 1 001", b"S 1 1 0101", b"S 1 1 0a", b"S 1 1 0G"],
     *[b"S 1 1 01 ", b"S 1 1  01", b"S 1 1 -1", b"N 1", b"N 1 1", b"A 1", b"A 1 3 3", b"L", b"L 1 1"],
-    *[b"K", b"K 1", b"k"],
+    *[b"K", b"K 1", b"k", b"M", b"M 1", b"M ", b"m"],
 ]
 
 OUT_OF_RANGE = [
@@ -341,6 +346,19 @@ def test_lines_of_ticks():
         equal(almost, swapped.replace("0 - |", "1 - |"))
     swapped, ticked = striperun.run([b"2 4 1 1 2", b"S 1 1 01", b"K"])
     equal(ticked, swapped.replace(".R.0", ".R.1"))
+
+
+def test_lines_of_images():
+    """An image is asked for by the one byte M, and changes nothing; nothing that is almost one shows any."""
+    for line in [b"M ", b" M", b"M 1", b"M M", b"MM", b"m", b"M\r", b"M\0", b"\0M", b"M\t", b"M 0102"]:
+        swapped, almost = striperun.run([b"2 4 1 1 2", b"S 1 1 01", line])
+        equal(almost, swapped.replace("0 - |", "1 - |"))
+    swapped, asked, again, ticked = striperun.run([b"2 4 1 1 2", b"S 1 1 01", b"M", b"M", b"K"])
+    stripe, _ = played((2, 4, 1, 1, 2), "S 1 1 01")
+    equal(asked, swapped.replace("0 - |", f"0 image={written(stripe).hex().upper()} |"))
+    equal(again, asked)
+    equal(ticked, swapped.replace(".R.0", ".R.1"))
+    equal(list(striperun.run([b"2 5 1 1 2", b"M"])), ["1 -"])
 
 
 # ------------------------------------------------------------ sets of pick
@@ -420,6 +438,309 @@ def test_picking_phase_after_11():
     equal(stripe.spare, b"\xAA" * 4)
 
 
+# ------------------------------------------------------------------- images
+
+
+def written(stripe, before=IMAGE_BYTE):
+    """The image, written into a buffer of other bytes."""
+    buffer = bytearray(before * image.length(stripe.sizes))
+    equal(image.write(stripe, buffer), ACCEPTED)
+    return bytes(buffer)
+
+
+def check_read_back_image(stripe):
+    """The image is read as the state that it is of, and that state has this image."""
+    shown = written(stripe)
+    again = image.read(shown)
+    equal(image.state(again), image.state(stripe))
+    equal(written(again, b"\0"), shown)
+
+
+def documents_stripe():
+    """The stripe of the document's example."""
+    found = re.search(r"\(k, n, B, t_d, m\) = \(([^)]*)\) after (.*?) \(striperun", IMAGE_DOCUMENT)
+    sizes, lines = found.groups()
+    return played(map(int, sizes.split(", ")), ", ".join(re.findall("`([^`]*)`", lines)))[0]
+
+
+def dumped(text):
+    """The bytes of a dump; a * repeats the line before up to the next one's offset."""
+    found = b""
+    for line in text.splitlines():
+        if line != "*":
+            offset, _, bytes_shown = line.partition("  ")
+            last = found[-16:]
+            while len(found) < int(offset, 16):
+                found += last
+            equal(len(found), int(offset, 16))
+            found += bytes.fromhex(bytes_shown)
+    return found
+
+
+def rows_under(heading, columns):
+    """The rows of the document's first table with these columns after the heading, each a list of texts."""
+    _, _, rest = IMAGE_DOCUMENT.partition(f"\n{heading}")
+    _, _, rest = rest.partition(f"| {' | '.join(columns)} |\n")
+    rows = re.match(r"(?:\|.*\n?)*", rest)[0].splitlines()[1:]
+    must(rows, f"no table {columns} under {heading}")
+    return [[cell.strip() for cell in row.strip("|").split("|")] for row in rows]
+
+
+def fields_of(heading):
+    """Offset and width of each field of a record, slot by slot, as the document's table tells them."""
+    fields = []
+    for offset, width, field, _ in rows_under(heading, ["Offset", "Width", "Field", "Values"]):
+        first, _, step = offset.partition(" + ")
+        must(step in ("", f"{width}·i"), f"{heading}: {offset}")
+        slots = int(re.search(r"i from 0 to (\d+)", field)[1]) + 1 if step else 1
+        fields += [(int(first) + int(width) * i, int(width)) for i in range(slots)]
+    return fields
+
+
+DOCUMENTS_RECORDS = {
+    image.SIZES: "## Sizes, 8 bytes",
+    image.ID: "## A write id, 6 bytes",
+    image.NODE: "## A node record, 140 bytes",
+    image.CLIENT: "## A client record, 135 bytes",
+}
+
+
+def test_documents_records():
+    """The fields of each record follow each other without a gap."""
+    for length, heading in DOCUMENTS_RECORDS.items():
+        end = 0
+        for offset, width in fields_of(heading):
+            equal(offset, end)
+            end += width
+        equal(end, length)
+
+
+def documents_offsets(sizes):
+    """Where some field of an image begins, by the document's tables; an entry has its mark and its age at 6 and 7."""
+    records = [image.SIZES] + [image.NODE] * sizes.n + [image.CLIENT] * sizes.m
+    offsets = set(range(0, image.HEADER, 4))
+    first = image.HEADER
+    for length in records:
+        for offset, width in fields_of(DOCUMENTS_RECORDS[length]):
+            offsets |= {first + offset + part for part in ([0, 6, 7] if width == image.ENTRY else [0])}
+        first += length
+    return offsets | set(range(first, image.length(sizes)))
+
+
+def test_documents_image():
+    """Each byte of the document's example, and each row of the table that tells its fields."""
+    stripe = documents_stripe()
+    shown = written(stripe)
+    _, _, example = IMAGE_DOCUMENT.partition("\n## A small image")
+    equal(shown, dumped(re.search(r"```\n(.*?)```", example, re.DOTALL)[1]))
+    offsets = documents_offsets(stripe.sizes)
+    end = 0
+    for offset, told, _ in rows_under("## A small image", ["Offset", "Bytes", "Meaning"]):
+        first = int(offset, 16)
+        # Bytes that no row tells are zero.
+        equal(shown[end:first], bytes(first - end))
+        end = first
+        for field in told.split(", "):
+            must(end in offsets, f"no field begins at {end:04X}")
+            equal(shown[end : end + len(bytes.fromhex(field))], bytes.fromhex(field))
+            end += len(bytes.fromhex(field))
+    equal(end, len(shown))
+
+
+def permitted_nodes():
+    return [(k, n) for k in range(2, 13) for n in range(k + 1, min(k + 6, 2 * k) + 1)]
+
+
+def test_lengths_of_images():
+    """The sizes alone fix the length; each section is where the header says, after the one before."""
+    for (k, n), B, m in product(permitted_nodes(), [1, 2, 5], [1, 2, 8]):
+        check_sections(new_stripe(Sizes(k, n, B, n - k, m)))
+    lengths = [
+        image.length(Sizes(k, n, B, 0, m)) for (k, n), B, m in product(permitted_nodes(), [1, 4096], range(1, 9))
+    ]
+    equal((min(lengths), max(lengths)), (622, 183_884))
+    for sizes in [(2, 3, 1, 1, 1), (12, 18, 4096, 6, 8), (2, 3, 4096, 0, 1), (12, 18, 1, 0, 8)]:
+        check_sections(new_stripe(Sizes(*sizes)))
+
+
+def check_sections(stripe):
+    k, n, B, td, m = stripe.sizes
+    stripe.blocks[:] = bytes(at % 251 for at in range(n * B))
+    shown = written(stripe)
+    equal(len(shown), 60 + 140 * n + 135 * m + (2 * n + m) * B)
+    equal(image.word_at(shown, 0), 6)
+    found = image.pairs(shown)
+    equal([length for _, length in found], [8, 140 * n, 135 * m, n * B, m * B, n * B])
+    ends = [offset + length for offset, length in found]
+    equal([offset for offset, _ in found], [52, *ends[:-1]])
+    equal(ends[-1], len(shown))
+    parts = image.sections_of(shown)
+    equal(parts[0], bytes([k, n, td, m, B % 256, B // 256, 0, 0]))
+    equal(parts[3:], [stripe.blocks, stripe.differences, stripe.spare])
+    check_read_back_image(stripe)
+
+
+def test_refused_images():
+    """Another length by a byte, and what is outside the limits: answer 1, and the buffer keeps its bytes."""
+    must(mutants.refuses(image), "an image is not refused")
+    stripe, _ = played((2, 4, 1, 1, 2), "S 1 1 01, L 2")
+    check_read_back_image(stripe)
+    before = image.state(stripe)
+    length = image.length(stripe.sizes)
+    for other in range(2 * length):
+        must(other == length or mutants.is_refused(image, stripe, other), f"{other} bytes are not refused")
+    equal(image.state(stripe), before)
+
+
+def test_images_along_lists():
+    """Each image is read back as its state, and the calls after it go on alike. All kinds of states occur."""
+    seen = Counter()
+    for seed in range(40):
+        first, *lines = b"\n".join(lists.stripe_script(seed, 1500)).split(b"\n")
+        stripe = new_stripe(striperun.read_sizes(first))
+        again = image.read(written(stripe))
+        for line in lines:
+            if line == IMAGE_LINE:
+                seen.update(kinds.of_stripe(stripe))
+                equal(image.state(again), image.state(stripe))
+                check_read_back_image(stripe)
+                again = image.read(written(stripe))
+            equal(answer_of(again, read_call(line)), answer_of(stripe, read_call(line)))
+    for kind in kinds.KINDS:
+        must(seen[kind] > 3, f"images show {kind} only {seen[kind]} times")
+
+
+NUMBERS = [0, 1, 127, 128, 255, 256, 257, 65_535, 65_536, 99_999, 999_998, 999_999]
+EPOCHS = [*NUMBERS, MAX_EPOCH]
+
+
+class Drawn:
+    """A stripe of any records within the limits, each field drawn by the seed and its place.
+
+    Also drawn is what has no meaning. One place may be drawn otherwise.
+    """
+
+    def __init__(self, seed, sizes, otherwise=None):
+        self.seed = seed
+        self.otherwise = otherwise
+        self.places = []
+        td = self.draw("t_d", range(sizes.n - sizes.k + 1))
+        self.sizes = sizes._replace(td=td)
+        self.stripe = new_stripe(self.sizes)
+        self.stripe.nodes = {j: self.node(f"node {j}") for j in self.stripe.nodes}
+        self.stripe.clients = {c: self.client(f"client {c}") for c in self.stripe.clients}
+        for name in ["blocks", "differences", "spare"]:
+            table = getattr(self.stripe, name)
+            table[:] = bytes(self.draw(f"{name} {at}", range(256)) for at in range(len(table)))
+
+    def draw(self, place, choices):
+        self.places.append(place)
+        text = f"{self.seed} {place} {place == self.otherwise}".encode()
+        return choices[int.from_bytes(blake2b(text, digest_size=8).digest(), "little") % len(choices)]
+
+    def draw_id(self, place):
+        client = self.draw(f"{place} client", range(1, self.sizes.m + 1))
+        position = self.draw(f"{place} position", range(1, self.sizes.k + 1))
+        return WriteId(client, position, self.draw(f"{place} number", NUMBERS))
+
+    def draw_ids(self, place, most):
+        ids = [self.draw_id(f"{place} {at}") for at in range(8)]
+        return ids[: self.draw(f"{place} count", range(most + 1))]
+
+    def draw_set(self, place):
+        return frozenset(j for j in range(1, self.sizes.n + 1) if self.draw(f"{place} {j}", [False, True]))
+
+    def entry(self, place):
+        recent = self.draw(f"{place} mark", [True, False])
+        return Entry(self.draw_id(place), recent, self.draw(f"{place} age", range(256)))
+
+    def node(self, place):
+        lmode = self.draw(f"{place} lmode", [UNL, L0, L1, EXP])
+        holder = self.draw(f"{place} holder", range(1, self.sizes.m + 1))
+        entries = [self.entry(f"{place} entry {at}") for at in range(16)]
+        return Node(
+            opmode=self.draw(f"{place} opmode", [NORM, RECONS, INIT]),
+            lmode=lmode,
+            holder=holder if lmode in (L0, L1) else None,
+            epoch=self.draw(f"{place} epoch", EPOCHS),
+            rset=self.draw_set(f"{place} rset"),
+            entries=entries[: self.draw(f"{place} count", range(17))],
+        )
+
+    def hand(self, place):
+        id, previous = self.draw_id(f"{place} id"), self.draw_id(f"{place} previous")
+        if not self.draw(f"{place} has a previous id", [False, True]):
+            previous = None
+        hand = Hand(id.position, id, previous, self.draw(f"{place} epoch", EPOCHS), self.draw_set(f"{place} done"))
+        return hand if self.draw(f"{place} is full", [False, True]) else None
+
+    def rebuild(self, place):
+        n, k = self.sizes.n, self.sizes.k
+        phase = self.draw(f"{place} phase", image.PHASES)
+        locked = self.draw(f"{place} locked", range(1, n))
+        lmodes = [self.draw(f"{place} lmode {j}", [UNL, EXP]) for j in range(1, n)]
+        lowest = self.draw(f"{place} untightened", range(k + 1, n + 2))
+        count = self.draw(f"{place} count", range(n))
+        chosen = self.draw_set(f"{place} chosen")
+        E = self.draw(f"{place} E", NUMBERS)
+        if phase is None:
+            return None
+        count = locked if phase == LOCKING else count
+        return Rebuild(phase, count, lmodes[:locked], list(range(lowest, n + 1)), chosen, E)
+
+    def client(self, place):
+        hand = self.hand(f"{place} hand")
+        return Client(
+            hand=hand,
+            rebuild=self.rebuild(f"{place} rebuild"),
+            finished=self.draw_ids(f"{place} finished", 8 if hand is None else 7),
+            moved=self.draw_ids(f"{place} moved", 8),
+            sweeps=self.draw(f"{place} sweeps", range(2 * self.sizes.n)),
+            next_number=self.draw(f"{place} next", EPOCHS),
+        )
+
+
+def test_images_of_any_records():
+    """Records within the limits, reached or not, are read back."""
+    rng = random.Random(6)
+    for seed in range(200):
+        stripe = Drawn(seed, lists.random_sizes(rng)).stripe
+        must(limits.within(stripe), "a record is outside the limits")
+        check_read_back_image(stripe)
+
+
+def test_images_of_unlike_states():
+    """One place drawn otherwise: another image if the state is another one, the same image if not."""
+    rng = random.Random(7)
+    unlike = Counter()
+    # Together these three have every kind of field.
+    for seed in [3, 6, 20]:
+        one = Drawn(seed, Sizes(2, 4, 1, 0, 2))
+        unlike += unlike_places(one, one.places)
+    for kind in {kind_of_place(place) for place in one.places}:
+        must(unlike[kind] > 0, f"{kind} drawn otherwise never gives another state")
+    for seed in range(10):
+        one = Drawn(seed, lists.random_sizes(rng))
+        unlike += unlike_places(one, rng.sample(one.places, 20))
+    must(unlike["the same"] > 500, f"only {unlike['the same']} times the same state")
+
+
+def kind_of_place(place):
+    return re.sub(r" \d+", "", place)
+
+
+def unlike_places(one, places):
+    """Draws each place otherwise; counts the kinds of those that give another state."""
+    unlike = Counter()
+    state, shown = image.state(one.stripe), written(one.stripe)
+    for place in places:
+        other = Drawn(one.seed, one.sizes, place).stripe
+        is_other = image.state(other) != state
+        equal((place, written(other) != shown), (place, is_other))
+        unlike[kind_of_place(place) if is_other else "the same"] += 1
+    return unlike
+
+
 # ------------------------------------------------------------------ volumes
 
 
@@ -466,6 +787,7 @@ VOLUME_ANSWERS = {
         *[b"0 RB 0", b"0 ? 0", b"?", b"? ", b"? 0 0", b"C 1", b"N 1 00", b"CC", b"CC 1 1"],
         *[b"0 C 1", b"0 N 1 00", b"3 N 1 00", b"0 V 00", b"0 M", b"0 J 00"],
         *[b"K", b"K 0", b"0 K ", b"0 K 1", b"0 k", b"0 KK", b"0K"],
+        *[b"M", b"M 0", b"m", b"3 M", b"0 M ", b"0 M 1", b"0 m", b"0 MM", b"0M", b"18446744073709551616 M"],
         *[b"0 S 1 1 0102", b"3 S 1 1 0102", b"3 S 9 9 0102"],
         *[b"SB 1 0", b"SB 1 0 0102", b"SB 1 6 0102", b"SB 9 6 0102"],
         *[b"NC 1", b"NC 1 00", b"NC 1 0102", b"NC 1 01020304", b"NC 0 0102", b"NC 5 01020304"],

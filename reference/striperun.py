@@ -1,16 +1,20 @@
 """striperun: plays a script on a stripe of any size, shows everything after each call.
 
-The first line is `k n B t_d m`; each further line is one call. The format of
-the output is that of the team's page on striperun.
+The first line is `k n B t_d m`; each further line is one call, or `M`, which
+shows the stripe's image and changes nothing. The format of the output is that
+of the team's page on striperun.
 """
 
 import sys
 
+import image
 from script import answer_of, lines_of, numbers_of, played, read_call
 from stripe import Sizes, Stripe
 
 SPARE_BYTE = b"\xAA"
 DIFFERENCE_BYTE = b"\x55"
+IMAGE_LINE = b"M"
+IMAGE_BYTE = b"\xCC"  # of the buffer that an image is written into
 
 
 def read_sizes(line):
@@ -90,16 +94,28 @@ def show_returned(call, answer):
     return str(answer.value)
 
 
-def play(stripe, lines):
+def image_shown(stripe, write):
+    """The answer of the image's writer, and the image."""
+    buffer = bytearray(IMAGE_BYTE * image.length(stripe.sizes))
+    answer = write(stripe, buffer)
+    return f"{answer.number} image={show_bytes(buffer)}" if answer.accepted else f"{answer.number} -"
+
+
+def call_shown(stripe, call):
+    """The answer of a call, and what it returned."""
+    answer = answer_of(stripe, call)
+    return f"{answer.number} {show_returned(call, answer)}"
+
+
+def play(stripe, lines, write):
     for line in lines:
-        call = read_call(line)
-        answer = answer_of(stripe, call)
-        yield f"{answer.number} {show_returned(call, answer)} | {show_state(stripe)}"
+        shown = image_shown(stripe, write) if line == IMAGE_LINE else call_shown(stripe, read_call(line))
+        yield f"{shown} | {show_state(stripe)}"
 
 
-def run(lines, new_stripe=new_stripe):
-    """The output lines for the lines of a script."""
-    return played(lines, read_sizes, lambda sizes, calls: play(new_stripe(sizes), calls))
+def run(lines, new_stripe=new_stripe, write=image.write):
+    """The output lines for the lines of a script. Write: writes an image."""
+    return played(lines, read_sizes, lambda sizes, calls: play(new_stripe(sizes), calls, write))
 
 
 def main():

@@ -5,7 +5,8 @@
 Each stripe of a volume has an author of its own (lists.py), and the volume's
 author lets them write in turn. What they write becomes a line of the volume;
 stops and failures become those of the whole volume as often as keeps their
-share in each stripe's calls. The same options give the same script.
+share in each stripe's calls. Lines M, with a stripe's number or without, are
+unreadable to volumerun. The same options give the same script.
 """
 
 import argparse
@@ -13,8 +14,9 @@ import random
 import sys
 from itertools import chain, zip_longest
 
-from lists import Author, damage, random_sizes, text
+from lists import Author, damage, random_sizes, text, with_images
 from script import VOLUME_FORMS, read_call, read_volume_call
+from striperun import IMAGE_LINE
 from takenout import taken_out
 from volume import VolumeSizes, card_of
 from volumerun import new_volume, read_sizes
@@ -51,9 +53,13 @@ class VolumeAuthor:
             line = self.line()
             if at < count * 9 // 10 and self.endangers(line):
                 line = volume_text("read", self.odd_block())
-            for part in line.split(b"\n"):
-                self.volume.answer(read_volume_call(part))
+            self.play(line)
             yield line
+
+    def play(self, line):
+        """Makes the call of the line. A damaged line may hold an LF."""
+        for part in line.split(b"\n"):
+            self.volume.answer(read_volume_call(part))
 
     def line(self):
         if self.chance(self.damaged):
@@ -63,6 +69,9 @@ class VolumeAuthor:
         if self.chance(self.arbitrary):
             return self.arbitrary_call()
         return self.plausible_call()
+
+    def image_line(self, rng):
+        return rng.choice([IMAGE_LINE, on_stripe(rng.randrange(self.volume.sizes.stripes), IMAGE_LINE)])
 
     def endangers(self, line):
         calls = taken_out(self.volume.sizes, read_volume_call(line))
@@ -206,7 +215,8 @@ def volume_script(seed, calls, sizes=None):
     rng = random.Random(seed)
     sizes = sizes or random_volume_sizes(rng)
     yield first_line(sizes)
-    yield from VolumeAuthor(new_volume(sizes), rng).lines(calls)
+    author = VolumeAuthor(new_volume(sizes), rng)
+    yield from with_images(author, author.lines(calls), seed)
 
 
 def main():

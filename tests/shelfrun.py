@@ -6,7 +6,8 @@ Plays inputs that are odd as a whole, and random lists, a tenth of their lines
 damaged as a person, a cable or an attacker would; all with little memory, for
 lines and input may have any length. Prints how many lines were unreadable, how
 often each answer was given and each event printed; stops at the first
-difference with an error exit.
+difference with an error exit, or if the lists have too few lines M, which only
+striperun knows.
 """
 
 import itertools
@@ -17,9 +18,10 @@ import time
 from collections import Counter
 
 from against import compared, in_order, pool
-from lists import shelf_author
+from lists import shelf_author, with_images
 from script import SHELF_FORMS, read_call
 from shelfrun import run
+from striperun import IMAGE_LINE
 
 PROGRAM, SEED = sys.argv[1], int(sys.argv[2])
 
@@ -28,6 +30,7 @@ COMMAND = ["bash", "-c", 'ulimit -v 8192 && exec "$0"', PROGRAM]
 
 LISTS = 8
 LINES = 20_000
+IMAGE_LINES = 1000  # unreadable, in all lists together
 
 EVENTS = ["swapped", "added", "locked", "rebuilt"]
 
@@ -121,6 +124,10 @@ ODD_LINES = [
     b"K",
     b"K 1",
     b"k",
+    b"M",
+    b"M 1",
+    b"M ",
+    b"m",
 ]
 ODD_INPUTS = [
     b"",
@@ -131,6 +138,7 @@ ODD_INPUTS = [
     b"\n\nR 1\n\n",
     b"R 1\r\nR 1\r\n",
     b"S 1 1 01\n" + b"K\n" * 300 + b"Z 1\nR 1",
+    b"M\nS 1 1 01\nM\nR 1\nM",
     b"\0",
     bytes(range(256)) * 40,
 ]
@@ -151,6 +159,7 @@ def counts(input):
         _, event, number, _ = output.split(b" ")
         seen["lines"] += 1
         seen["unreadable"] += read_call(line, SHELF_FORMS) is None
+        seen["M"] += line == IMAGE_LINE and number == b"1"
         seen[event.decode()] += 1
         seen[int(number)] += 1
     return seen
@@ -158,7 +167,8 @@ def counts(input):
 
 def random_list(seed):
     """Every other one has no end of its last line."""
-    lines = shelf_author(random.Random(seed)).lines(LINES)
+    author = shelf_author(random.Random(seed))
+    lines = with_images(author, author.lines(LINES), seed)
     return counts(b"\n".join(lines) + b"\n" * (seed % 2))
 
 
@@ -191,6 +201,9 @@ def main():
     whole += seen
     print("answers:", in_order(whole, range(13)))
     print("events:", in_order(whole, EVENTS))
+    print("unreadable M:", whole["M"])
+    if seen["M"] < IMAGE_LINES:
+        sys.exit(f"shelfrun: M unreadable only {seen['M']} times, not {IMAGE_LINES}")
 
 
 if __name__ == "__main__":

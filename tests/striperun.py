@@ -1,12 +1,14 @@
 """Compares the program striperun with the second implementation, byte by byte.
 
     striperun.py PROGRAM SEED
+    striperun.py --reference-only SEED      without a program
 
 Plays random lists of calls for each of the sizes below, lists with many
-damaged lines, inputs that are odd as a whole, and lists in which nodes come due
-by ticks. Prints how many calls of each kind were accepted, how often each
-answer was given and how many rebuilds were finished; stops at the first
-difference with an error exit.
+damaged lines, inputs that are odd as a whole, lists in which nodes come due
+by ticks, and lists with images of every kind of state. Prints how many calls
+of each kind were accepted, how often each answer was given, how many rebuilds
+were finished and what the images show; stops at the first difference with an
+error exit, or if the images show too little.
 """
 
 import itertools
@@ -14,12 +16,14 @@ import random
 import sys
 from collections import Counter
 
-from against import compared, in_order, pool
+from against import compared, in_order, pool, reference_output
 from firstlines import BAD_SIZES, GOOD_SIZES
-from lists import Author, stripe_author
+import image
+import kinds
+from lists import Author, stripe_author, with_images
 from script import FORMS, spelled_out
 from stripe import Sizes
-from striperun import new_stripe, run
+from striperun import IMAGE_LINE, new_stripe, run
 
 PROGRAM, SEED = sys.argv[1], int(sys.argv[2])
 
@@ -27,8 +31,14 @@ NODES = [(2, 3), (2, 4), (3, 5), (4, 7), (12, 18)]
 LENGTHS = [1, 3, 64]
 CALLS = 4600
 DAMAGED_CALLS = 500
+LONG_BLOCKS = [Sizes(2, 3, 4096, 1, 1), Sizes(12, 18, 4096, 6, 8)]
 
-SCRIPT = b"S 1 1 0102\nA 1 3\nL 2\nR 1\nK\nZ 1\nQ 2\nbogus"
+SCRIPT = b"S 1 1 0102\nA 1 3\nL 2\nR 1\nK\nZ 1\nM\nQ 2\nbogus\nM 1\nM"
+
+# Each is refused somewhere.
+DAMAGED_IMAGE_LINES = [b"M 1", b"MM", b"m", b" M", b"M "]
+# How often the images show each kind of state, in the lists written out below and in the random ones.
+FLOORS = {"images": 1, "lists": 10}
 
 MEGABYTE = 2**20
 ODD_INPUTS = [
@@ -44,6 +54,11 @@ ODD_INPUTS = [
     b"2 4 2 1 2\nS 1 1 " + b"AB" * MEGABYTE + b"\nS 1 1 ABCD\nN 1 " + b"00" * MEGABYTE,
     b"2 4 2 1 2\n" + b"S" * MEGABYTE + b"\n" + b" " * MEGABYTE + b"\nS 1 1 AB\nS 1 1 ABCDEF\nS 1 1 \nS 1 1 ABC\nS 1 1 abcd",
     b"2 4 2 1 2\nS 1 1 ABCD\nK\nK 1\nK \n K\nk\nKK\nK K\nK 0102\nK\r\nK\0\n\0K\nK\tK\n" + b"K" * MEGABYTE + b"\nK",
+    b"2 4 2 1 2\nM\nS 1 1 ABCD\nM\nM 1\nM \n M\nm\nMM\nM M\nM 0102\nM\r\nM\0\n\0M\nM\tM\n" + b"M" * MEGABYTE + b"\nM",
+    b"M",
+    b"M\nM",
+    b"2 4 2 1 2\nM",
+    b"2 4 2 1 2\nM\n\nM\n",
     bytes(range(256)) * 40,
     b"2 4 2 1 2\n" + bytes(range(256)) * 40,
 ]
@@ -75,6 +90,32 @@ TICKS = [
     f"{DONE}, K x64, L 2 x4, P 2, W 2 x4, " + f"T 2, K, {ASK}, " * 4 + f"U 2 x4, K, {ASK}, {LATER}, K x64, {ASK}",
 ]
 
+# Lists with images, on the same stripe: each phase of a rebuild, hands, lists up to full ones, ages, marks, rounds.
+EIGHT_DONE = ", ".join([f"{DONE}, M"] * 8)
+SIXTEEN = ", ".join(["S 1 1 11, D 1, M"] * 16)
+LOCKED_AND_PICKED = "L 2, M, L 2 x2, M, L 2, M, O 2, M, I 2, M, I 2, M, P 2, M"
+PHASES = f"{LOCKED_AND_PICKED}, W 2, M, W 2 x3, M, T 2, M, T 2 x3, M, U 2, M, U 2 x3, M"
+IMAGES = [
+    f"M, M, {PHASES}, {PHASES}, S 1 1 11, M, {PHASES}",
+    # Nodes were EXP: the first, some, all; given back by answer 9; lost by answer 10.
+    "L 1, Q 1, M, L 2, M, L 2 x2, M, L 2, M, P 2, M",
+    "L 1 x3, C 1, M, L 2, M, L 2, M, L 2, M, L 2, M",
+    "L 1 x4, Q 1, M, L 2 x3, M, N 4 99, M, L 1, M, L 2, M, Q 2, M",
+    "L 1 x2, N 1 99, L 2, M, L 2, M, Q 1, L 2 x3, M, L 2, M, N 3 99, O 2, M, I 2, M",
+    # Hands with and without a previous id, of an earlier epoch too, done nowhere and everywhere but at one node.
+    "S 1 1 11, M, S 2 1 22, M, A 1 4, A 2 4, M, H 1 1, M, H 2 1, M, A 1 3, M, A 2 3, M",
+    f"S 1 1 11, A 1 4, {PHASES}, S 2 2 33, D 1, S 1 2 44, M, A 2 3, M, {PHASES}",
+    "S 1 1 11, N 1 99, H 1 1, M, A 1 3, M, C 1, M",
+    # Full lists, a round at each of its nodes, moved ids, entries marked old and discarded.
+    f"{SIXTEEN}, S 2 1 22, M, K x3, M",
+    f"{EIGHT_DONE}, S 1 1 11, M, " + "G 1, M, " * 8 + f"K, {EIGHT_DONE}, " + "G 1, M, " * 8 + f"{DONE}, M",
+    # Ages from 0 to 255, and beside entries marked old.
+    f"{DONE}, K, M, {LATER}, K x63, M, G 1 x6, M, G 1 x2, K x191, M, K x9, M",
+    # RECONS and INIT nodes with rsets, a rebuild that is resumed, epochs.
+    "S 1 1 11, A 1 3, L 2 x4, P 2, M, W 2, M, Q 2, M, N 1 99, M, L 1 x4, M, P 1, M, W 1 x2, M, C 1, M, "
+    "L 2 x4, P 2, M, W 2 x4, T 2 x2, M, Q 2, M",
+]
+
 
 def random_lists():
     """One list for each of the sizes, the clients in turn 1 to 8."""
@@ -89,23 +130,47 @@ def script_of(sizes, lines):
 
 
 def random_script(seed, sizes):
-    return script_of(sizes, stripe_author(random.Random(seed), sizes).lines(CALLS))
+    author = stripe_author(random.Random(seed), sizes)
+    return script_of(sizes, with_images(author, author.lines(CALLS), seed))
 
 
 def damaged_script(seed, sizes):
     author = Author(new_stripe(sizes), random.Random(seed), damaged=0.5, arbitrary=0.3)
-    return script_of(sizes, author.lines(DAMAGED_CALLS))
+    return script_of(sizes, with_images(author, author.lines(DAMAGED_CALLS), seed, damaged=0.5))
+
+
+def long_blocks_script(seed, sizes):
+    """A write, and a rebuild up to its writes; few lines, for each shows all the tables."""
+    author = stripe_author(random.Random(seed), sizes)
+    done, rebuild = author.done_write(1, sizes.k), author.locks_and_pick(sizes.m)
+    return script_of(sizes, [*done, IMAGE_LINE, *rebuild, IMAGE_LINE, b"W %d" % sizes.m, IMAGE_LINE])
+
+
+def output_of(script):
+    if PROGRAM == "--reference-only":
+        return reference_output(run, script).splitlines()
+    return compared([PROGRAM], run, script)
+
+
+def kinds_shown(returned):
+    """The kinds of the state that an image shows."""
+    return kinds.of_stripe(image.read(bytes.fromhex(returned.removeprefix(b"image=").decode())))
 
 
 def counts(script):
-    """Of each call how often it was accepted, of each answer, of finished rebuilds."""
+    """Of each call how often it was accepted, of each answer, of finished rebuilds, of images and what they show."""
     seen = Counter()
-    for line, output in zip(script.split(b"\n")[1:], compared([PROGRAM], run, script)):
+    for line, output in zip(script.split(b"\n")[1:], output_of(script)):
         number, returned = output.split(b" ")[:2]
         seen["calls"] += 1
         seen["rebuilds"] += returned == b"rebuilt"
         seen[int(number)] += 1
-        if number == b"0":
+        if number == b"1" and line in DAMAGED_IMAGE_LINES:
+            seen[f"refused {line}"] += 1
+        if number == b"0" and line == IMAGE_LINE:
+            seen["image"] += 1
+            seen.update(kinds_shown(returned))
+        elif number == b"0":
             seen[FORMS[line[:1]][0]] += 1
     return seen
 
@@ -116,27 +181,46 @@ def play(job):
 
 
 def show(name, seen):
-    print(f"striperun, {name}: {seen['calls']} calls the same, {seen['rebuilds']} rebuilds finished")
+    print(f"striperun, {name}: {seen['calls']} calls the same, {seen['rebuilds']} rebuilds finished, {seen['image']} images")
+
+
+def check_shown(seen, needed, floor):
+    for what in needed:
+        if seen[what] < floor:
+            sys.exit(f"striperun: {what} only {seen[what]} times, not {floor}")
+
+
+def check_images(by_name, whole):
+    for name, floor in FLOORS.items():
+        check_shown(by_name[name], kinds.KINDS, floor)
+    check_shown(whole, set().union(*map(kinds.of_sizes, [*LONG_BLOCKS, *random_lists()])), 1)
+    check_shown(whole, [f"refused {line}" for line in DAMAGED_IMAGE_LINES], 1)
 
 
 def main():
-    whole = Counter()
-    for first, input in itertools.product(GOOD_SIZES + BAD_SIZES, [SCRIPT]):
-        whole += counts(first + b"\n" + input)
-    for input in ODD_INPUTS:
-        whole += counts(input)
-    show("odd inputs", whole)
-    seen = sum((counts(script_of(Sizes(2, 4, 1, 1, 2), spelled_out(calls))) for calls in TICKS), Counter())
-    show("ticks", seen)
-    whole += seen
+    odd = [first + b"\n" + SCRIPT for first in GOOD_SIZES + BAD_SIZES] + ODD_INPUTS
+    written_out = {
+        name: [script_of(Sizes(2, 4, 1, 1, 2), spelled_out(calls)) for calls in lists]
+        for name, lists in [("ticks", TICKS), ("images", IMAGES)]
+    }
+    by_name = {}
+    for name, scripts in {"odd inputs": odd, **written_out}.items():
+        by_name[name] = sum(map(counts, scripts), Counter())
+        show(name, by_name[name])
     with pool() as workers:
-        for name, make in [("damaged lists", damaged_script), ("lists", random_script)]:
-            jobs = [(make, SEED * 1000 + at, sizes) for at, sizes in enumerate(random_lists())]
-            seen = sum(workers.imap_unordered(play, jobs), Counter())
-            show(name, seen)
-            whole += seen
+        for name, make, all_sizes in [
+            ("long blocks", long_blocks_script, LONG_BLOCKS),
+            ("damaged lists", damaged_script, random_lists()),
+            ("lists", random_script, random_lists()),
+        ]:
+            jobs = [(make, SEED * 1000 + at, sizes) for at, sizes in enumerate(all_sizes)]
+            by_name[name] = sum(workers.imap_unordered(play, jobs), Counter())
+            show(name, by_name[name])
+    whole = sum(by_name.values(), Counter())
     print("answers:", in_order(whole, range(13)))
-    print("accepted:", in_order(whole, [name for name, _, _ in FORMS.values()]))
+    print("accepted:", in_order(whole, [*[name for name, _, _ in FORMS.values()], "image"]))
+    print("images show:", in_order(whole, kinds.KINDS))
+    check_images(by_name, whole)
 
 
 if __name__ == "__main__":

@@ -15,12 +15,13 @@ happened.
 
 import itertools
 import random
+import re
 import sys
 from collections import Counter
 
 from against import compared, in_order, pool, reference_output
 from firstlines import BAD_SIZES, GOOD_SIZES
-from lists import text
+from lists import text, with_images
 from script import FORMS, VOLUME_FORMS, read_volume_call
 from stripe import Sizes
 from takenout import run
@@ -36,7 +37,9 @@ DAMAGED_CALLS = 500
 
 KINDS = [letter.decode() for letter in VOLUME_FORMS] + [name for name, _, _ in FORMS.values()]
 # What has to happen, in all lists together. Several: lists in which several clients finish rebuilds of several stripes.
-FLOORS = {"calls": 100_000, "rebuilds": 1000, "several": 50, "NC": 500, "CC": 800, "tick": 25_000}
+FLOORS = {"calls": 100_000, "rebuilds": 1000, "several": 50, "NC": 500, "CC": 800, "tick": 25_000, "M": 1000, "s M": 1000}
+# Lines for an image, unreadable with a stripe's number and without.
+IMAGE_LINES = {"M": re.compile(rb"M"), "s M": re.compile(rb"[0-9]+ M")}
 
 SIZES = b"3 2 4 2 1 2"
 LAST_STRIPE, LAST_BLOCK = 2, 5
@@ -95,6 +98,7 @@ ODD_LINES = [
     *[b"+0 R 1", b"0x0 R 1", b"0.0 R 1", b"zero R 1", b"0R 1", b"0 r 1", b"0 0 R 1", b"00 R 1"],
     *[b"0 K", b"00 K", b"2 K", b"3 K", b"0 K ", b"0  K", b" 0 K", b"0 K 1", b"0 K 0102", b"0 k", b"0 KK", b"0K"],
     *[b"K 0", b"KK", b"K 0 0102", b"? K", b"CC K", b"0 K\r", b"0 K\0", b"0 0 K", b"-0 K", b"4294967296 K"],
+    *[b"M 0", b"M 1", b"M ", b"m", b"0 M ", b"0  M", b" 0 M", b"0 M 1", b"0 m", b"0 MM", b"0M", b"2 M", b"3 M", b"4294967296 M"],
     # striperun's lines, and those that are none after a stripe's number
     *[b"R 1", b"S 1 1 0102", b"A 1 3", b"L 1", b"C 1", b"N 1 0102", b"Z 1", b"Q 1", b"M", b"V 0102", b"J 00", b"K"],
     *[b"0 C 1", b"0 N 1 0102", b"0 M", b"0 V 0102", b"0 J 00", b"3 C 1", b"3 N 1 0102", b"0 C 0", b"0 N 5 0102"],
@@ -208,12 +212,13 @@ def lost_card_script(seed, sizes):
 
 
 def random_script(seed, sizes):
-    return script_of(sizes, VolumeAuthor(new_volume(sizes), random.Random(seed)).lines(CALLS))
+    author = VolumeAuthor(new_volume(sizes), random.Random(seed))
+    return script_of(sizes, with_images(author, author.lines(CALLS), seed))
 
 
 def damaged_script(seed, sizes):
     author = VolumeAuthor(new_volume(sizes), random.Random(seed), damaged=0.5, arbitrary=0.3)
-    return script_of(sizes, author.lines(DAMAGED_CALLS))
+    return script_of(sizes, with_images(author, author.lines(DAMAGED_CALLS), seed, damaged=0.5))
 
 
 def all_sizes():
@@ -241,7 +246,7 @@ def kind_of(line):
 
 
 def counts(script):
-    """Of each call how often it was accepted, of each answer, and of finished rebuilds."""
+    """Of each call how often it was accepted, of each answer, of finished rebuilds, and of lines for an image."""
     seen = Counter()
     stripes, clients = set(), set()
     for line, output in zip(script.split(b"\n")[1:], output_of(script)):
@@ -250,6 +255,8 @@ def counts(script):
         seen[number.decode()] += 1
         if number == b"0":
             seen[kind_of(line)] += 1
+        for what, form in IMAGE_LINES.items():
+            seen[what] += number == b"1" and form.fullmatch(line) is not None
         if returned == b"rebuilt":
             seen["rebuilds"] += 1
             stripe, _, client = line.split(b" ")
