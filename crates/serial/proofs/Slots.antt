@@ -1,20 +1,28 @@
 -- A list as its count and its slots, blank past the count: what is in a slot, and a buffer that is filled slot by slot. One law for the lists of every
 -- kind of item. Assumes nothing.
+use mathlib.Core.Bool.{cond}
 use mathlib.Core.Path.{_≡_, refl, sym, ap, _∙_}
 use mathlib.Core.List.{List, [], _∷_, _++_}
 use Prim.Native.Nat.{ℕ, _+_, _*_, _≤_, _<_}
 use native.Mathlib.Nat.{zero-mul, suc-mul}
 use native.Mathlib.Numerals.{add-one}
+use native.Mathlib.Decide.{decLt}
 use native.Mathlib.Omega.{arith}
+use lib.Dec.{ltb}
 use lib.ListN.{length, getD, List·getD-eq-default}
 use Rattle.basics.specs.Lists.{listOf}
-use Rattle.basics.proofs.Lists.{length-listOf}
+use borrow.Author.Tests.{lt-ltb, le-ltb}
+use Rattle.basics.proofs.Lists.{length-listOf, getD-listOf}
 use Rattle.octets.specs.Octets.{joined, Put}
 use Rattle.octets.proofs.Filling.{Filled, fill-item, full}
 
--- past the count
-pub slot-blank : {A : Type 0} (n : ℕ) (g : ℕ → A) (d : A) (i : ℕ) → n ≤ i → d ≡ getD (listOf n g) i d
-slot-blank n g d i l = sym (List·getD-eq-default (listOf n g) d (omega (arith, length-listOf n g)))
+-- an item below the count, the blank past it
+pub slot-of : {A : Type 0} (n : ℕ) (g : ℕ → A) (d : A) (i : ℕ) → cond (ltb i n) (g i) d ≡ getD (listOf n g) i d
+slot-of n g d i = by (decLt i n)
+  where
+    by : Dec (i < n) → cond (ltb i n) (g i) d ≡ getD (listOf n g) i d
+    by (yes l) = rw (lt-ltb i n l) (sym (getD-listOf n g i d l))
+    by (no l) = rw (le-ltb i n (omega (arith, l))) (sym (List·getD-eq-default (listOf n g) d (omega (arith, length-listOf n g))))
 
 module _ {A : Type 0} (w limit : ℕ) (bytes : A → List ℕ) (d : A) (xs : List A) where
   -- the count and the first i slots are in the buffer

@@ -1,7 +1,8 @@
 // Write ids, and a client's list of them.
+ghost use mathlib.Core.Bool.{cond};
 ghost use mathlib.Core.Path.{_≡_};
-ghost use Prim.Native.Nat.{_<_, _≤_};
-ghost use lib.ListN.{getD};
+ghost use Prim.Native.Nat.{_≤_};
+ghost use lib.Dec.{ltb};
 ghost use Rattle.entries.specs.Entries.{finishedLimit};
 ghost use Rattle.entries.specs.View.{blankId, idsOf};
 ghost use Rattle.image.specs.Records.{idBytes, idsBytes};
@@ -28,13 +29,12 @@ pub(crate) fn id_bytes(x: WriteId) -> [u8; 6]
     [x.client, x.position, n[0], n[1], n[2], n[3]]
 }
 
-// The id in slot i, blank past the count.
-fn id_in(s: Ids, i: usize) -> WriteId
-    requires { ⌜ i < finishedLimit ⌝ }
-    ensures { λ r. ⌜ r ≡ getD (idsOf s) i blankId ⌝ }
+// The id of slot i, of which so many have a meaning; blank past them.
+fn id_in(x: WriteId, i: usize, count: usize) -> WriteId
+    ensures { λ r. ⌜ r ≡ cond (ltb i count) x blankId ⌝ }
 {
-    if i < s.count {
-        return s.items[i];
+    if i < count {
+        return x;
     }
     blank_id()
 }
@@ -48,7 +48,8 @@ pub(crate) fn ids_bytes(s: Ids) -> [u8; 49]
     out[0] = s.count as u8;
     let mut i = 0;
     while i < Ids::LIMIT {
-        let b = id_bytes(id_in(s, i));
+        let x = s.items[i];
+        let b = id_bytes(id_in(x, i, s.count));
         put(&mut out, 1 + i * 6, &b);
         i += 1;
     }

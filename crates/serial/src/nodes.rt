@@ -1,7 +1,8 @@
 // A node's record.
+ghost use mathlib.Core.Bool.{cond};
 ghost use mathlib.Core.Path.{_≡_};
-ghost use Prim.Native.Nat.{_<_, _≤_};
-ghost use lib.ListN.{getD};
+ghost use Prim.Native.Nat.{_≤_};
+ghost use lib.Dec.{ltb};
 ghost use Rattle.entries.specs.Entries.{entryLimit, newEntry};
 ghost use Rattle.entries.specs.View.{blankId, entryOf, entriesOf};
 ghost use Rattle.records.specs.View.{nodeOf};
@@ -87,13 +88,12 @@ fn blank_entry() -> Entry
     }
 }
 
-// The entry in slot i, blank past the count.
-fn entry_in(s: Entries, i: usize) -> Entry
-    requires { ⌜ i < entryLimit ⌝ }
-    ensures { λ r. ⌜ entryOf r ≡ getD (entriesOf s) i (newEntry blankId) ⌝ }
+// The entry of slot i, of which so many have a meaning; blank past them. It is handed the entry and not the list, which would be copied for each slot.
+fn entry_in(e: Entry, i: usize, count: usize) -> Entry
+    ensures { λ r. ⌜ entryOf r ≡ cond (ltb i count) (entryOf e) (newEntry blankId) ⌝ }
 {
-    if i < s.count {
-        return s.items[i];
+    if i < count {
+        return e;
     }
     blank_entry()
 }
@@ -107,7 +107,8 @@ fn entries_bytes(s: Entries) -> [u8; 129]
     out[0] = s.count as u8;
     let mut i = 0;
     while i < Entries::LIMIT {
-        let b = entry_bytes(entry_in(s, i));
+        let e = s.items[i];
+        let b = entry_bytes(entry_in(e, i, s.count));
         put(&mut out, 1 + i * 8, &b);
         i += 1;
     }

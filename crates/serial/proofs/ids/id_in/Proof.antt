@@ -1,18 +1,14 @@
 -- The item below the count, else the blank one. Assumes nothing.
-use mathlib.Core.Path.{sym, _∙_}
-use native.Mathlib.Omega.{arith}
-use Rattle.basics.proofs.Lists.{getD-listOf}
 use borrow.Author.Needs.{needs}
-use Rattle.serial.proofs.Slots.{slot-blank}
+use borrow.Author.Tests.{lt-ltb, le-ltb}
 use Rattle.serial.proofs.ids.id_in.Statement.{statement}
 use Rattle.serial.proofs.ids.id_in.Tie as tie
 
+returns : tie.Need-returns
+returns c = let a = c .before .args in rw (lt-ltb (a .i) (a .count) (c .if1 .taken))
+
+returns-2 : tie.Need-returns-2
+returns-2 c = let t = c .before in let a = t .before .args in rw (le-ltb (a .i) (a .count) (t .if1 .left)) (c .blank-id .ensures)
+
 pub id-in-spec : {M : Type 1} → statement M
-id-in-spec =
-    tie.close
-    (tie.spec
-    (λ c. search needs)
-    (λ c. search needs)
-    (λ c. sym (getD-listOf _ _ _ _ (c .before .if1 .taken)))
-    (λ c κs. search needs)
-    (λ c. c .blank-id .ensures ∙ slot-blank _ _ _ _ (omega arith)))
+id-in-spec = tie.close (tie.spec returns (λ c κs. search needs) returns-2)

@@ -8,7 +8,7 @@ use Rattle.entries.specs.View.{blankId, entriesOf}
 use Rattle.entries.proofs.Lists.{entries-count}
 use Rattle.image.specs.Records.{entryBytes, entriesBytes}
 use borrow.Author.Needs.{needs}
-use Rattle.serial.proofs.Slots.{Slots, slots-none, slots-more, slots-all}
+use Rattle.serial.proofs.Slots.{Slots, slot-of, slots-none, slots-more, slots-all}
 use Rattle.serial.proofs.nodes.entries_bytes.Statement.{statement}
 use Rattle.serial.proofs.nodes.entries_bytes.Tie as tie
 
@@ -19,23 +19,23 @@ abbrev μ-loop : tie.MeasureT-loop
 μ-loop s out₀ i₀ out i = entryLimit - i
 
 loop-holds : tie.Need-loop-holds Inv-loop μ-loop
-loop-holds c = let s = c .before .args .s in slots-none 8 entryLimit entryBytes (newEntry blankId) (entriesOf s) (s .count) (replicate 128 0) (entries-count s) refl
+loop-holds c = let s = c .args .t1 in slots-none 8 entryLimit entryBytes (newEntry blankId) (entriesOf s) (s .count) (replicate 128 0) (entries-count s) refl
 
 put-requires : tie.Need-put-requires Inv-loop μ-loop
 put-requires c κs =
     let e = c .before .before in
-    omega (arith, ap length (e .entry-bytes .ensures), e .before .before .before .loop .inv .filled .long)
+    omega (arith, ap length (e .entry-bytes .ensures), e .before .before .before .before .loop .inv .filled .long)
 
 loop-again : tie.Need-loop-again Inv-loop μ-loop
 loop-again c =
     let e = c .before .before .before .before in
-    let l = e .before .before .before in
-    slots-more 8 entryLimit entryBytes (newEntry blankId) (entriesOf (l .before .before .args .s)) (l .loop .inv) (c .before .put .ensures) (omega arith)
-    (e .entry-bytes .ensures ∙ ap entryBytes (e .before .entry-in .ensures)) refl
+    let l = e .before .before .before .before in
+    slots-more 8 entryLimit entryBytes (newEntry blankId) (entriesOf (l .before .args .t1)) (l .loop .inv) (c .before .put .ensures) (omega arith)
+    (e .entry-bytes .ensures ∙ ap entryBytes (e .before .entry-in .ensures ∙ slot-of _ _ _ _)) refl
 
 returns : tie.Need-returns Inv-loop μ-loop
 unfolding entriesBytes
-returns c = let l = c .before in slots-all 8 entryLimit entryBytes (newEntry blankId) (entriesOf (l .before .before .args .s)) (l .loop .inv) (omega arith)
+returns c = let l = c .before in slots-all 8 entryLimit entryBytes (newEntry blankId) (entriesOf (l .before .args .t1)) (l .loop .inv) (omega arith)
 
 pub entries-bytes-spec : {M : Type 1} → statement M
 entries-bytes-spec =
@@ -46,6 +46,8 @@ entries-bytes-spec =
     (λ c. search needs)
     (λ c. search needs)
     loop-holds
+    (λ c. search needs)
+    (λ c. search needs)
     (λ c κs. search needs)
     (λ c κs. search needs)
     (λ c. search needs)
