@@ -8,9 +8,6 @@ use Rattle.blocks.specs.Blocks.{addTimes}
 use Rattle.code.specs.Calls.{Coded, codeNumber}
 use Rattle.code.specs.declared.CodeAnswer.{CodeAnswer}
 use Rattle.code.specs.declared.CodeAnswer.the-variants.{Accepted, OutOfLimits, OutOfRange, TooFew, NoInverse}
-use Rattle.image.specs.Image.{imageLength}
-use Rattle.records.specs.declared.Sizes.{Sizes}
-use Rattle.records.specs.Sizes.{sizesWithin}
 
 -- the size that an answer gives
 abbrev pub sizeIn : CodeAnswer → ℕ
@@ -37,7 +34,3 @@ added c src dst =
     cond (eqb (length dst) (length src))
     (record { answer = 0; out = addTimes c dst src })
     (record { answer = 1; out = dst })
-
--- the length of an image; sizes outside the limits have none
-abbrev pub imageLengthOf : Sizes → ℕ
-imageLengthOf z = cond (sizesWithin z) (imageLength z) 0

@@ -3,7 +3,8 @@ ghost use mathlib.Core.Path.{_≡_};
 ghost use Rattle.gf256.specs.Field.{product};
 ghost use Rattle.code.specs.Calls.{encoding, decoding};
 ghost use Rattle.layout.specs.Layout.{homeOf, cardFor, nodeFor};
-ghost use Rattle.exports.specs.Exports.{sizeIn, answerOf, answered, added, imageLengthOf};
+ghost use Rattle.exports.specs.Exports.{sizeIn, answerOf, answered, added};
+ghost use Rattle.image.specs.Places.{lengthBy};
 use code::CodeAnswer;
 use records::Sizes;
 
@@ -114,7 +115,7 @@ pub extern "C" fn mezgaudre_image_length(
     failures: usize,
     m: usize,
 ) -> usize
-    ensures { λ r. ⌜ r ≡ imageLengthOf (record { k = k; n = n; b = b; failures = failures; m = m }) ⌝ }
+    ensures { λ r. ⌜ r ≡ lengthBy (record { k = k; n = n; b = b; failures = failures; m = m }) ⌝ }
 {
     let z = Sizes {
         k: k,

@@ -7,7 +7,7 @@ use native.Mathlib.Omega.{arith}
 use Rattle.records.specs.declared.Sizes.{Sizes}
 use Rattle.records.specs.Sizes.{sizesWithin}
 use Rattle.image.specs.Image.{imageLength}
-use Rattle.image.specs.Places.{imageMost}
+use Rattle.image.specs.Places.{lengthBy, imageMost}
 use Rattle.image.proofs.Limits.{small}
 
 pub within-most : (z : Sizes) → sizesWithin z ≡ true → imageLength z ≤ imageMost
@@ -18,7 +18,7 @@ within-most z h =
     let differences : z .m * z .b ≤ 8 * 4096 = mul-le-mul (s .m) (s .b) in
     omega (arith, s .n, s .m, blocks, differences)
 
-pub length-most : (z : Sizes) → cond (sizesWithin z) (imageLength z) 0 ≤ imageMost
+pub length-most : (z : Sizes) → lengthBy z ≤ imageMost
 length-most z = by (sizesWithin z) refl
   where
     by : (t : Bool) → sizesWithin z ≡ t → cond t (imageLength z) 0 ≤ imageMost

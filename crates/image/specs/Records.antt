@@ -26,12 +26,12 @@ use Rattle.records.specs.Client.{Client, Write, Rebuild, NoRebuild, Locking, Pi
 abbrev pub idBytes : WriteId → List ℕ
 idBytes x = x .client ∷ x .position ∷ wordBytes (x .number .0)
 
--- "its mark (1 byte: 0 recent, 1 old)"
+-- "0 recent, 1 old"
 abbrev pub markByte : Mark → ℕ
 markByte Recent = 0
 markByte Old = 1
 
--- "An entry is a write id (6 bytes), then its mark .., then its age"
+-- "An entry, 8 bytes, is a write id (6 bytes), then its mark, then its age"
 abbrev pub entryBytes : Entry → List ℕ
 entryBytes e = idBytes (e .id) ++ markByte (e .mark) ∷ e .age .0 ∷ []
 

@@ -1,10 +1,9 @@
 // The image of a stripe (docs/IMAGE.md). What it is, and what is proved of it, are in specs and proofs; here is where its sections begin, and its length.
-ghost use mathlib.Core.Bool.{true, cond};
+ghost use mathlib.Core.Bool.{true};
 ghost use mathlib.Core.Path.{_≡_};
 ghost use Prim.Native.Nat.{_*_, _≤_};
 ghost use Rattle.records.specs.Sizes.{nodeLimit, blockLimit, sizesWithin};
-ghost use Rattle.image.specs.Image.{imageLength};
-ghost use Rattle.image.specs.Places.{placesOf};
+ghost use Rattle.image.specs.Places.{lengthBy, placesOf};
 use records::Sizes;
 
 // The widths of the header, of the sizes, of a node's and of a client's record, in bytes.
@@ -59,7 +58,7 @@ impl Places {
 
 // The length of the image; 0 for sizes outside the limits, which have none.
 pub fn length(z: Sizes) -> usize
-    ensures { λ r. ⌜ r ≡ cond (sizesWithin z) (imageLength z) 0 ⌝ }
+    ensures { λ r. ⌜ r ≡ lengthBy z ⌝ }
 {
     if z.within() {
         let p = Places::of(z);

@@ -1,5 +1,5 @@
 -- What the call answers and leaves, by its tests. Assumes nothing.
-use mathlib.Core.Bool.{true, false, cond}
+use mathlib.Core.Bool.{true, false}
 use mathlib.Core.List.{List, []}
 use mathlib.Core.Logic.{_≢_}
 use mathlib.Core.Path.{_≡_, refl, sym, _∙_}
@@ -9,10 +9,10 @@ use borrow.Author.Tests.{eq-eqb, ne-eqb}
 use Rattle.calls.specs.declared.Answer.the-variants.{Accepted, Refused}
 use Rattle.calls.specs.Answers.{Meets}
 use Rattle.image.specs.Image.{image, imageLength, writable}
+use Rattle.image.specs.Places.{lengthBy}
 use Rattle.machine.specs.Stripe.{Stripe, guard}
 use Rattle.records.specs.declared.Refusal.the-variants.{OutOfLimits}
 use Rattle.records.specs.declared.Sizes.{Sizes}
-use Rattle.records.specs.Sizes.{sizesWithin}
 use Rattle.imaging.specs.Imaging.{written}
 use Rattle.imaging.proofs.Laws.{sizes-of}
 
@@ -22,7 +22,7 @@ module _ (z : Sizes) (s : Stripe) (out : List ℕ) where
   refused-outside h = record { said = rw h; left = refl }
 
   -- r is the length by the sizes, as the code asks for it
-  module _ {r : ℕ} (h : writable z s ≡ true) (e : r ≡ cond (sizesWithin z) (imageLength z) 0) where
+  module _ {r : ℕ} (h : writable z s ≡ true) (e : r ≡ lengthBy z) where
     is-length : r ≡ imageLength z
     is-length = e ∙ rw (sizes-of z s h)
 
