@@ -4,6 +4,8 @@ use mezgaudre::{add_times, decode, encode, product, Answer};
 use std::hint::black_box;
 use timing::{best_of, met, noise};
 
+#[allow(dead_code)] // its product alone
+mod field;
 mod timing;
 
 const K: usize = 12;
@@ -145,6 +147,27 @@ fn decode_6_lost(rows: &Rows, b: usize) -> (f64, f64) {
     line("decode 12+6, 6 lost", b, K * b * LOST, library, row)
 }
 
+/// One product, over pairs of bytes with no pattern: ns in the library, by a call of it, and in plain Rust with a test for 0.
+fn product_alone() -> [f64; 2] {
+    const PAIRS: usize = 4096;
+    let factors = noise(2 * PAIRS);
+    let sum = |product: fn(u8, u8) -> u8| {
+        let product = black_box(product);
+        let products = factors
+            .chunks_exact(2)
+            .map(|pair| product(pair[0], pair[1]));
+        black_box(products.fold(0, |sum, r| sum ^ r))
+    };
+    assert_eq!(sum(product), sum(field::times));
+    let library = || {
+        sum(product);
+    };
+    let plain = || {
+        sum(field::times);
+    };
+    best_of(library, plain).map(|seconds| seconds / PAIRS as f64 * 1e9)
+}
+
 fn aim(what: &str, measured: f64, least: f64) {
     met(
         what,
@@ -180,4 +203,9 @@ fn main() {
         0.95,
     );
     println!("decode beside encode, per byte of a lost block: {beside:.2}");
+    let [library, plain] = product_alone();
+    println!(
+        "a product alone, ns: {library:.1}, in plain Rust with a test for 0 {plain:.1}, ratio {:.2}",
+        library / plain
+    );
 }

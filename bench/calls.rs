@@ -8,6 +8,7 @@ use tables::{accepted, callbench_calls, one_call, one_of_each, proved};
 use tables::{Buffer, Tables, Work, ADDS, CLIENTS, DUES, K, LENGTHS, LOST, N, SWAPS};
 use timing::{best_of, met};
 
+mod field;
 mod plain;
 mod tables;
 mod timing;

@@ -2,6 +2,7 @@
 //! proved calls are timed beside, so it makes the same tests in the same order and leaves the same records and bytes. It shares no line with
 //! them.
 #![forbid(unsafe_code)]
+use crate::field::{double, inverse, times};
 
 const ENTRIES: usize = 16;
 const IDS: usize = 8;
@@ -341,53 +342,6 @@ pub struct Stripe<'a> {
 
 /// The number of document 01's table, 0 if the call is accepted.
 type Number = u8;
-
-// ---- the field
-
-const fn double(a: u8) -> u8 {
-    a << 1 ^ (a >> 7) * 0x1D
-}
-
-const fn powers() -> [u8; 512] {
-    let mut table = [1; 512];
-    let mut i = 1;
-    while i < 512 {
-        table[i] = double(table[i - 1]);
-        i += 1;
-    }
-    table
-}
-
-const fn logarithms() -> [u8; 256] {
-    let mut table = [0; 256];
-    let mut i = 0;
-    while i < 255 {
-        table[POWERS[i] as usize] = i as u8;
-        i += 1;
-    }
-    table
-}
-
-static POWERS: [u8; 512] = powers();
-static LOGARITHMS: [u8; 256] = logarithms();
-
-fn logarithm(a: u8) -> usize {
-    LOGARITHMS[usize::from(a)].into()
-}
-
-fn times(a: u8, b: u8) -> u8 {
-    match (a, b) {
-        (0, _) | (_, 0) => 0,
-        _ => POWERS[logarithm(a) + logarithm(b)],
-    }
-}
-
-fn inverse(a: u8) -> u8 {
-    match a {
-        0 => 0,
-        _ => POWERS[255 - logarithm(a)],
-    }
-}
 
 /// What the points of two nodes differ by.
 fn apart(j: usize, i: usize) -> u8 {

@@ -4,6 +4,7 @@ use mathlib.Core.Path.{_≡_, refl, sym, ap, ap₂, _∙_}
 use mathlib.Core.Logic.{_≢_}
 use Prim.Native.Nat.{ℕ, zero, suc, _+_, _-_, _*_, _/_, _%_, _≤_, _<_}
 use native.Mathlib.Decide.{ℕ-discrete, decLt}
+use native.Mathlib.Nat.{zero-add, add-zero, add-suc}
 use native.Mathlib.Numerals.{add-one}
 use native.Mathlib.Omega.{arith}
 use lib.Bits.{bitXor}
@@ -11,10 +12,10 @@ use lib.ListN.{length, getD, take, set, length-set}
 use lib.Seq.{length-take-le, getD-take, getD-set-same, getD-set-other}
 use borrow.Author.Tests.{eq-eqb, ne-eqb}
 use Rattle.gf256.specs.Field.{product, inverse, power}
-use Rattle.gf256.proofs.Laws.{product-comm, power-add, power-turns, power-mod, inverse-by-logarithm, inverse-cancel}
+use Rattle.gf256.proofs.Laws.{product-byte, product-comm, product-left, one-product, power-add, power-turns, power-mod, inverse-by-logarithm, inverse-cancel}
 use Rattle.kernel.specs.Combine.{nth, Nodes}
 use Rattle.code.specs.Decode.{others, scale, recover, recovered}
-use Rattle.coding.specs.Weights.{Apart, ApartBut, Rising, First, share, IsShare}
+use Rattle.coding.specs.Weights.{Apart, ApartBut, ApartIn, Rising, First, factors, share, IsShare}
 use Rattle.code.proofs.Factors.{others-all, others-nonzero}
 use Rattle.gf256.proofs.Ring.{_⊕_, _⊗_, ring, Nonzero}
 use Rattle.code.proofs.Points.{apart}
@@ -37,16 +38,51 @@ pub points-apart : (nodes : List ℕ) → Nodes nodes → ((l : ℕ) → getD no
     → Nonzero ((j - 1) ⊕ (getD nodes l 0 - 1))
 points-apart nodes n bytes j l j1 jl h d = apart j (getD nodes l 0) j1 jl (n .from l h) (omega (arith, bytes l)) (λ e. d (sym e))
 
-module _ (nodes : List ℕ) (q t l : ℕ) where
-  pub others-in : l + 1 ≢ q → (r m : ℕ) → power r ≡ others (nth nodes) l q t → power m ≡ t ⊕ (getD nodes l 0 - 1) → power (r + m) ≡ others (nth nodes) (l + 1) q t
-  unfolding others
-  others-in h r m er em =
-      power-add r m ∙ ap₂ product er em ∙ product-comm (others (nth nodes) l q t) (t ⊕ (getD nodes l 0 - 1))
-      ∙ rw (add-one l, others, ne-eqb q (suc l) (omega arith), nth-next nodes l)
+-- one factor more
+pub factors-turn : (nodes : List ℕ) (a l t r m : ℕ) → a ≤ l → power r ≡ factors (nth nodes) a (l - a) t → power m ≡ t ⊕ (getD nodes l 0 - 1)
+    → power (r + m) ≡ factors (nth nodes) a (l + 1 - a) t
+unfolding factors
+factors-turn nodes a l t r m h er em =
+    let more : l + 1 - a ≡ suc (l - a) = omega arith in
+    let at : a + suc (l - a) ≡ suc l = omega arith in
+    power-add r m ∙ ap₂ product er em ∙ product-comm (factors (nth nodes) a (l - a) t) (t ⊕ (getD nodes l 0 - 1))
+    ∙ rw (more, factors, at, nth-next nodes l)
 
-  pub others-out : l + 1 ≡ q → others (nth nodes) l q t ≡ others (nth nodes) (l + 1) q t
-  unfolding others
-  others-out e = rw (add-one l, others, eq-eqb q (suc l) (omega arith))
+factors-byte : (s : ℕ → ℕ) (a n t : ℕ) → factors s a n t < 256
+unfolding factors
+factors-byte s a zero t = omega arith
+factors-byte s a (suc n) t = product-byte (t ⊕ (s (a + suc n) - 1)) (factors s a n t)
+
+-- the products without the qth factor, and with all of them, by spans
+module _ (s : ℕ → ℕ) (t : ℕ) where
+  pub others-none : (k q : ℕ) → k < q → others s k q t ≡ factors s 0 k t
+  unfolding others factors
+  others-none zero q l = refl
+  others-none (suc k) q l = rw (others, ne-eqb q (suc k) (omega arith), others-none k q (omega arith), zero-add (suc k))
+
+  pub others-split : (q n : ℕ) → others s (suc q + n) (suc q) t ≡ factors s 0 q t ⊗ factors s (suc q) n t
+  unfolding others factors
+  others-split q zero =
+      rw (add-zero (suc q), others, eq-eqb (suc q) (suc q) refl, others-none q (suc q) (omega arith))
+      (sym (product-comm (factors s 0 q t) 1 ∙ one-product (factors s 0 q t) (factors-byte s 0 q t)))
+  others-split q (suc n) =
+      let at : suc q + suc n ≡ suc (suc q + n) = add-suc (suc q) n in
+      let last = t ⊕ (s (suc (suc q + n)) - 1) in
+      let step : others s (suc (suc q + n)) (suc q) t ≡ last ⊗ (factors s 0 q t ⊗ factors s (suc q) n t) =
+      rw (others, ne-eqb (suc q) (suc (suc q + n)) (omega arith), others-split q n) in
+      ap (λ k. others s k (suc q) t) at ∙ step ∙ product-left last (factors s 0 q t) (factors s (suc q) n t)
+      ∙ ap (λ k. factors s 0 q t ⊗ ((t ⊕ (s k - 1)) ⊗ factors s (suc q) n t)) (sym at)
+
+  -- as the code cuts them: the two spans beside the qth, and the one of all
+  pub two-spans : (k q : ℕ) → 1 ≤ q → q ≤ k → factors s 0 (q - 1 - 0) t ⊗ factors s q (k - q) t ≡ others s k q t
+  two-spans k q q1 qk =
+      let first : q - 1 - 0 ≡ q - 1 = omega arith in
+      let here : suc (q - 1) ≡ q = omega arith in
+      let whole : suc (q - 1) + (k - q) ≡ k = omega arith in
+      rw first (sym (rw (whole, here) at (others-split (q - 1) (k - q))))
+
+  pub one-span : (k q : ℕ) → k < q → factors s 0 (k - 0) t ≡ others s k q t
+  one-span k q past = let whole : k - 0 ≡ k = omega arith in rw whole (sym (others-none k q past))
 
 -- the product depends on the first k nodes alone
 pub others-ext : (s r : ℕ → ℕ) (k q t : ℕ) → All k (λ l. s l ≡ r l) → others s k q t ≡ others r k q t
@@ -117,9 +153,16 @@ module _ (nodes : List ℕ) (f : First nodes) (k : ℕ) (k12 : k ≤ 12) where
   pub data-apart : (j : ℕ) → ApartBut (take k nodes) j j
   data-apart j l h d = omega (arith, data-at l (omega (arith, data-length)))
 
+  pub data-past : (j : ℕ) → k < j → ApartIn (take k nodes) 0 k j
+  data-past j past l h lk = omega (arith, data-at l lk)
+
   pub scale-data : (j : ℕ) → others (nth (take k nodes)) (length (take k nodes)) j (j - 1) ≡ scale k j
   unfolding scale
   scale-data j = rw data-length (others-ext (nth (take k nodes)) (λ i. i) k j (j - 1) data-nth)
+
+  pub scale-past : (j : ℕ) → k < j → factors (nth (take k nodes)) 0 (k - 0) (j - 1) ≡ scale k j
+  scale-past j past =
+      one-span (nth (take k nodes)) (j - 1) k j past ∙ ap (λ n. others (nth (take k nodes)) n j (j - 1)) (sym data-length) ∙ scale-data j
 
 -- what is recovered depends on the first k nodes alone
 pub recovered-nodes : (s r : ℕ → ℕ) (k : ℕ) (f : ℕ → ℕ) (j : ℕ) → All k (λ q. s q ≡ r q)

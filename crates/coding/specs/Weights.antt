@@ -3,7 +3,8 @@ use mathlib.Core.Bool.{cond}
 use mathlib.Core.List.{List}
 use mathlib.Core.Logic.{_≢_, _⊎_}
 use mathlib.Core.Path.{_≡_}
-use Prim.Native.Nat.{ℕ, suc, _-_, _≤_, _<_}
+use Prim.Native.Nat.{ℕ, zero, suc, _+_, _-_, _≤_, _<_}
+use lib.Bits.{bitXor}
 use lib.Dec.{eqb, ltb}
 use lib.ListN.{length, getD}
 use Rattle.gf256.specs.Field.{product, inverse, power}
@@ -20,6 +21,10 @@ Apart nodes j = (l : ℕ) → l < length nodes → getD nodes l 0 ≢ j
 abbrev pub ApartBut : List ℕ → ℕ → ℕ → Type 0
 ApartBut nodes q j = (l : ℕ) → l < length nodes → suc l ≢ q → getD nodes l 0 ≢ j
 
+-- none of those after the first a up to the eth
+abbrev pub ApartIn : List ℕ → ℕ → ℕ → ℕ → Type 0
+ApartIn nodes a e j = (l : ℕ) → a ≤ l → l < e → getD nodes l 0 ≢ j
+
 -- each above the one before it
 pub record Rising (nodes : List ℕ) : Type 0 where
   pub rises : (p q : ℕ) → p < q → q < length nodes → getD nodes p 0 < getD nodes q 0
@@ -28,6 +33,11 @@ pub record Rising (nodes : List ℕ) : Type 0 where
 pub record First (nodes : List ℕ) : Type 0 where
   pub twelve : length nodes ≡ dataLimit
   pub at : (q : ℕ) → q < dataLimit → getD nodes q 0 ≡ suc q
+
+-- the product of t plus the point of node s l, over the n places l after a
+unfoldable pub factors : (ℕ → ℕ) → ℕ → ℕ → ℕ → ℕ
+factors s a zero t = 1
+factors s a (suc n) t = product (bitXor t (s (a + suc n) - 1)) (factors s a n t)
 
 -- the factor of `recover` that belongs to node s q alone
 abbrev pub share : ℕ → (ℕ → ℕ) → ℕ → ℕ

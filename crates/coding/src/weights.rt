@@ -8,7 +8,7 @@ ghost use Rattle.code.specs.Code;
 ghost use Rattle.code.specs.Code.{dataLimit, redundantLimit};
 ghost use Rattle.code.specs.Decode;
 ghost use Rattle.kernel.specs.Combine.{nth, Nodes};
-ghost use Rattle.coding.specs.Weights.{Apart, ApartBut, Rising, First, IsShare, Shares, dataWeight, unitWeight};
+ghost use Rattle.coding.specs.Weights.{Apart, ApartBut, ApartIn, Rising, First, factors, IsShare, Shares, dataWeight, unitWeight};
 use code::Limits;
 
 // The nodes that can hold data.
@@ -16,34 +16,6 @@ pub fn data_nodes() -> [u8; Limits::DATA_MOST]
     ensures { λ r. ⌜ First r ⌝ }
 {
     [1, 2, 3, 4, 5, 6, 7, 8, 9, 10, 11, 12]
-}
-
-// ---- by tables that are lent: so a table is copied once for a call, and not for each product
-
-// The logarithm of a, where a is not 0.
-fn logarithm(logarithms: &[u8; 256], a: u8) -> usize
-    requires { ⌜ IsLogarithms (now logarithms) ⌝ }
-    ensures { λ r. ⌜ (r < 255) × (0 < a → Field.power r ≡ a) ⌝ }
-{
-    logarithms[a as usize] as usize
-}
-
-// x^i, for any i.
-fn power(powers: &[u8; 255], i: usize) -> u8
-    requires { ⌜ IsPowers (now powers) ⌝ }
-    ensures { λ r. ⌜ r ≡ Field.power i ⌝ }
-{
-    powers[i % 255]
-}
-
-fn inverse(powers: &[u8; 255], logarithms: &[u8; 256], a: u8) -> u8
-    requires { ⌜ IsPowers (now powers) × IsLogarithms (now logarithms) ⌝ }
-    ensures { λ r. ⌜ r ≡ Field.inverse a ⌝ }
-{
-    if a == 0 {
-        return 0;
-    }
-    power(powers, 255 - logarithm(logarithms, a))
 }
 
 // ---- the coefficients
@@ -56,7 +28,7 @@ fn data_weight(powers: &[u8; 255], logarithms: &[u8; 256], k: usize, j: usize, i
     if k <= i {
         return 0;
     }
-    inverse(powers, logarithms, (j - 1) as u8 ^ i as u8)
+    gf256::inverse_by(powers, logarithms, (j - 1) as u8 ^ i as u8)
 }
 
 // The twelve weights of each of the m redundant nodes after k.
@@ -83,21 +55,27 @@ pub fn data_weights(k: usize, m: usize) -> [u8; Limits::REDUNDANT_MOST * Limits:
 
 // ---- the recovering weights, by their logarithms, which are added up: of twelve factors at most
 
-// The logarithm of the product, over each node but the qth, of the sum of its point and that of node j. Of the others none is node j.
-fn others(logarithms: &[u8; 256], nodes: &[u8], q: usize, j: usize) -> usize
-    requires { ⌜ IsLogarithms (now logarithms) × Nodes (now nodes) × ApartBut (now nodes) q j × (1 ≤ j) × (j ≤ 256) ⌝ }
-    ensures { λ r. ⌜ (Field.power r ≡ Decode.others (nth (now (nodes .entry))) (length (now (nodes .entry))) q (j - 1)) × (r ≤ 3048) ⌝ }
+// The logarithm of the product, over the nodes after the first a up to the eth, of the sum of its point and that of node j, which is none of them.
+fn span(logarithms: &[u8; 256], nodes: &[u8], a: usize, e: usize, j: usize) -> usize
+    requires { ⌜ IsLogarithms (now logarithms) × Nodes (now nodes) × (a ≤ e) × (e ≤ length (now nodes)) × ApartIn (now nodes) a e j × (1 ≤ j) × (j ≤ 256) ⌝ }
+    ensures { λ r. ⌜ (Field.power r ≡ factors (nth (now (nodes .entry))) a (e - a) (j - 1)) × (r ≤ 254 * (e - a)) ⌝ }
 {
     let t = (j - 1) as u8;
     let mut r = 0;
-    let mut l = 0;
-    while l < nodes.len() {
-        if l + 1 != q {
-            r += logarithm(logarithms, t ^ (nodes[l] - 1));
-        }
+    let mut l = a;
+    while l < e {
+        r += gf256::logarithm(logarithms, (t ^ (nodes[l] - 1)) as usize);
         l += 1;
     }
     r
+}
+
+// The same over each node but the qth. Of the others none is node j.
+fn others(logarithms: &[u8; 256], nodes: &[u8], q: usize, j: usize) -> usize
+    requires { ⌜ IsLogarithms (now logarithms) × Nodes (now nodes) × (1 ≤ q) × (q ≤ length (now nodes)) × ApartBut (now nodes) q j × (1 ≤ j) × (j ≤ 256) ⌝ }
+    ensures { λ r. ⌜ (Field.power r ≡ Decode.others (nth (now (nodes .entry))) (length (now (nodes .entry))) q (j - 1)) × (r ≤ 3048) ⌝ }
+{
+    span(logarithms, nodes, 0, q - 1, j) + span(logarithms, nodes, q, nodes.len(), j)
 }
 
 // The same over the data nodes.
@@ -106,6 +84,9 @@ fn scale(logarithms: &[u8; 256], k: usize, j: usize) -> usize
     ensures { λ r. ⌜ (Field.power r ≡ Decode.scale k j) × (r ≤ 3048) ⌝ }
 {
     let data = data_nodes();
+    if k < j {
+        return span(logarithms, &data[..k], 0, k, j);
+    }
     others(logarithms, &data[..k], j, j)
 }
 
@@ -156,12 +137,12 @@ pub fn recover_row(
 {
     let t = (j - 1) as u8;
     let k = nodes.len();
-    let all = over(others(logarithms, nodes, k + 1, j), scale(logarithms, k, j));
+    let all = over(span(logarithms, nodes, 0, k, j), scale(logarithms, k, j));
     let mut r = [0u8; Limits::DATA_MOST];
     let mut q = 0;
     while q < k {
-        let own = logarithm(logarithms, t ^ (nodes[q] - 1));
-        r[q] = power(powers, shares[q] + (255 - own) + all);
+        let own = gf256::logarithm(logarithms, (t ^ (nodes[q] - 1)) as usize);
+        r[q] = gf256::power(powers, shares[q] + (255 - own) + all);
         q += 1;
     }
     r

@@ -1,47 +1,82 @@
-// GF(256), polynomial 0x11D: products and inverses by the tables of powers and logarithms.
+// GF(256), polynomial 0x11D: products and inverses by the tables of powers and logarithms. There is no test in them: what becomes of 0, which has
+// no logarithm, is arithmetic.
 ghost use mathlib.Core.Path.{_≡_};
-ghost use Prim.Native.Nat.{_<_};
+ghost use Prim.Native.Nat.{_≤_, _<_};
 ghost use Rattle.gf256.specs.Field;
+ghost use Rattle.gf256.specs.Field.{IsPowers, IsLogarithms};
 
 pub mod logarithms; // logarithms.rt: the logarithm table
 pub mod powers; // powers.rt: the power table
 
-// x^i, for any i.
-fn power(i: usize) -> u8
-    ensures { λ r. ⌜ r ≡ Field.power i ⌝ }
+// ---- 0
+
+// 0 where a is 0, and else 1.
+fn nonzero(a: u8) -> usize
+    ensures { λ r. ⌜ (r ≤ 1) × (a ≡ 0 → r ≡ 0) × (0 < a → r ≡ 1) ⌝ }
 {
-    let t = powers::table();
-    t[i % 255]
+    (a as usize + 255) / 256
 }
 
-// The i below 255 with x^i = a, where a is not 0.
-fn logarithm(a: u8) -> usize
-    ensures { λ r. ⌜ (r < 255) × (0 < a → Field.power r ≡ a) ⌝ }
-{
-    let t = logarithms::table();
-    t[a as usize] as usize
-}
-
-// 0 where a is 0, and else r: the one test for 0.
+// 0 where a is 0, and else r.
 fn unless_zero(a: u8, r: u8) -> u8
     ensures { λ s. ⌜ (a ≡ 0 → s ≡ 0) × (0 < a → s ≡ r) ⌝ }
 {
-    if a == 0 { 0 } else { r }
+    nonzero(a) as u8 * r
 }
+
+// Where the logarithm of a stands; that of 1 where a is 0.
+fn index(a: u8) -> usize
+    ensures { λ r. ⌜ (1 ≤ r) × (r < 256) × (a ≡ 0 → r ≡ 1) × (0 < a → r ≡ a) ⌝ }
+{
+    a as usize + 1 - nonzero(a)
+}
+
+// ---- by tables that are lent: so a table is copied once for a call, and not for each product
+
+// x^i, for any i.
+pub fn power(powers: &[u8; 255], i: usize) -> u8
+    requires { ⌜ IsPowers (now powers) ⌝ }
+    ensures { λ r. ⌜ r ≡ Field.power i ⌝ }
+{
+    powers[i % 255]
+}
+
+// The r below 255 with x^r = i. "Entry 0 is never used": i is at least 1.
+pub fn logarithm(logarithms: &[u8; 256], i: usize) -> usize
+    requires { ⌜ IsLogarithms (now logarithms) × (1 ≤ i) × (i < 256) ⌝ }
+    ensures { λ r. ⌜ (r < 255) × (Field.power r ≡ i) ⌝ }
+{
+    logarithms[i] as usize
+}
+
+// The inverse of a; 0 of 0.
+pub fn inverse_by(powers: &[u8; 255], logarithms: &[u8; 256], a: u8) -> u8
+    requires { ⌜ IsPowers (now powers) × IsLogarithms (now logarithms) ⌝ }
+    ensures { λ r. ⌜ r ≡ Field.inverse a ⌝ }
+{
+    let r = power(powers, 255 - logarithm(logarithms, index(a)));
+    unless_zero(a, r)
+}
+
+// ---- by tables of their own
 
 pub fn product(a: u8, b: u8) -> u8
     ensures { λ r. ⌜ r ≡ Field.product a b ⌝ }
 {
-    let r = power(logarithm(a) + logarithm(b));
-    unless_zero(a, unless_zero(b, r))
+    let powers = powers::table();
+    let logarithms = logarithms::table();
+    let i = logarithm(&logarithms, index(a));
+    let j = logarithm(&logarithms, index(b));
+    unless_zero(a, unless_zero(b, power(&powers, i + j)))
 }
 
 // The inverse of a; 0 of 0.
 pub fn inverse(a: u8) -> u8
     ensures { λ r. ⌜ r ≡ Field.inverse a ⌝ }
 {
-    let r = power(255 - logarithm(a));
-    unless_zero(a, r)
+    let powers = powers::table();
+    let logarithms = logarithms::table();
+    inverse_by(&powers, &logarithms, a)
 }
 
 // x times a.

@@ -15,7 +15,7 @@ use Rattle.basics.specs.Lists.{listOf}
 use Rattle.lanes.specs.Lanes.{lane, chosen}
 use Rattle.blocks.proofs.Parts.{set-length, put-in, put-before, put-after}
 use Rattle.basics.proofs.Lists.{length-listOf, getD-listOf, listOf-cong}
-use Rattle.kernel.specs.Working.{Summed, Prepared, Filled, groupSum, spread, highest}
+use Rattle.kernel.specs.Working.{Summed, Prepared, FirstZero, Sixteens, Filled, groupSum, spread, highest}
 
 -- ---- a group
 
@@ -111,22 +111,25 @@ put-is a k p r old fits e long far =
       λ l h i. put-in a k p old fits many l (far l h i) ∙ ap (λ d. getD d l 0) e ∙ getD-take k r l 0 (far l h i),
     )
 
--- what holds of the sums of a byte gives the byte: after c turns of its first 16 times c bytes
-abbrev pub Bytewise : (ℕ → Type 0) → (ℕ → ℕ) → ℕ → List ℕ → Type 0
-Bytewise P f k out = (i : ℕ) → i < k → P (i / 16 * 768 + i % 16) → getD out i 0 ≡ f (i / 16 * 768 + i % 16)
-
-pub bytewise-turn : (P : ℕ → Type 0) (f : ℕ → ℕ) (c : ℕ) (out d : List ℕ) → 16 * c + 16 ≤ length out → length d ≡ 16 → Bytewise P f (16 * c) out
-    → ((l : ℕ) → l < 16 → P (c * 768 + l) → getD d l 0 ≡ f (c * 768 + l))
-    → Bytewise P f (16 * (c + 1)) (setPart (16 * c) (16 * c + 16 - 16 * c) d out)
-bytewise-turn P f c out d fits many upto here = rw (add-sub-cancel-left (16 * c) 16) (λ i hi h. by i hi h (decLt i (16 * c)))
+-- sixteen bytes more
+pub sixteens-turn : (s : List ℕ) (x y z e n c : ℕ) (out r d : List ℕ) → 16 * c + 16 ≤ n → Sixteens s x y z e n c out → length r ≡ 16 → d ≡ r
+    → ((l : ℕ) → l < 16 → FirstZero s (e + c * 768 + l) → getD r l 0 ≡ highest s x y z (e + c * 768 + l) 8)
+    → Sixteens s x y z e n (c + 1) (setPart (16 * c) (16 * c + 16 - 16 * c) d out)
+sixteens-turn s x y z e n c out r d room upto many same here =
+    rw (same, add-sub-cancel-left (16 * c) 16) (set-length (16 * c) 16 r out fits many ∙ upto .0, λ i hi first. by i hi first (decLt i (16 * c)))
   where
-    by : (i : ℕ) → i < 16 * (c + 1) → P (i / 16 * 768 + i % 16) → Dec (i < 16 * c) → getD (setPart (16 * c) 16 d out) i 0 ≡ f (i / 16 * 768 + i % 16)
-    by i hi h (yes l) = put-before (16 * c) 16 d out fits many i l ∙ upto i l h
-    by i hi h (no o) =
-        let e : 16 * c + (i - 16 * c) ≡ i = omega arith in
-        let at : i / 16 * 768 + i % 16 ≡ c * 768 + (i - 16 * c) = omega arith in
-        ap (λ k. getD (setPart (16 * c) 16 d out) k 0) (sym e) ∙ put-in (16 * c) 16 d out fits many (i - 16 * c) (omega arith)
-        ∙ here (i - 16 * c) (omega arith) (subst P at h) ∙ ap f (sym at)
+    fits : 16 * c + 16 ≤ length out
+    fits = omega arith
+
+    by : (i : ℕ) → i < 16 * (c + 1) → FirstZero s (e + (i / 16 * 768 + i % 16)) → Dec (i < 16 * c)
+        → getD (setPart (16 * c) 16 r out) i 0 ≡ highest s x y z (e + (i / 16 * 768 + i % 16)) 8
+    by i hi first (yes l) = put-before (16 * c) 16 r out fits many i l ∙ upto .1 i l first
+    by i hi first (no o) =
+        let l : ℕ = i - 16 * c in
+        let it : 16 * c + l ≡ i = omega arith in
+        let at : e + (i / 16 * 768 + i % 16) ≡ e + c * 768 + l = omega arith in
+        ap (λ k. getD (setPart (16 * c) 16 r out) k 0) (sym it) ∙ put-in (16 * c) 16 r out fits many l (omega arith)
+        ∙ here l (omega arith) (subst (FirstZero s) at first) ∙ ap (λ k. highest s x y z k 8) (sym at)
 
 -- the whole sixteens of n bytes, and then the rest, which r has
 module _ (P : ℕ → Type 0) (f : ℕ → ℕ) (n : ℕ) (fine : (i : ℕ) → i < n → P (i / 16 * 768 + i % 16)) (whole : List ℕ)

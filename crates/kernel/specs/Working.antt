@@ -67,6 +67,11 @@ unfoldable pub highest : List ℕ → ℕ → ℕ → ℕ → ℕ → ℕ → �
 highest s x y z i zero = 0
 highest s x y z i (suc n) = stepped s x y z i (7 - n) (highest s x y z i n)
 
+-- out, of n bytes, has its first c sixteens, the sums of the first of which begin at e: each byte whose first sums are 0
+abbrev pub Sixteens : List ℕ → ℕ → ℕ → ℕ → ℕ → ℕ → ℕ → List ℕ → Type 0
+Sixteens s x y z e n c out =
+    (length out ≡ n) × ((i : ℕ) → i < 16 * c → FirstZero s (e + (i / 16 * 768 + i % 16)) → getD out i 0 ≡ highest s x y z (e + (i / 16 * 768 + i % 16)) 8)
+
 -- the n bytes from place p on of the first j of m blocks of b bytes are there, and the bytes of all blocks before place p are as they were
 pub record Filled (m b p n : ℕ) (s plan old : List ℕ) (j : ℕ) (out : List ℕ) : Type 0 where
   pub size : length out ≡ m * b

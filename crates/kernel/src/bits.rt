@@ -2,7 +2,7 @@
 ghost use mathlib.Core.Path.{_≡_};
 ghost use Prim.Native.Nat.{ℕ, _+_, _*_, _/_, _%_, _≤_, _<_};
 ghost use lib.ListN.{length, getD};
-ghost use Rattle.kernel.specs.Working.{FirstZero, Zeroed, stepped, highest};
+ghost use Rattle.kernel.specs.Working.{Zeroed, Sixteens, stepped, highest};
 use crate::plan::place;
 
 // The sum so far, one bit on.
@@ -55,40 +55,51 @@ fn sixteen_plain(s: &[u8], x: u32, y: u32, z: u32, e: usize) -> [u8; 16]
     r
 }
 
-// Sixteen bytes into out; their sums begin at e.
-fn put_sums(out: &mut [u8], s: &[u8], x: u32, y: u32, z: u32, e: usize)
-    requires { ⌜ (length (now out) ≡ 16) × (e + 768 ≤ length (now s)) ⌝ }
-    ensures { λ _. ⌜ (length (now (out .exit)) ≡ 16)
-        × ((l : ℕ) → l < 16 → FirstZero (now (s .entry)) (e + l) → getD (now (out .exit)) l 0 ≡ highest (now (s .entry)) x y z (e + l) 8) ⌝ }
+// Out as far as it has whole sixteens; the sums of the first begin at e. (Fewer than sixteen bytes have a way of their own: where a loop puts now
+// sixteen, now fewer, LLVM makes a call of memcpy for each.)
+fn fill_bits(out: &mut [u8], s: &[u8], x: u32, y: u32, z: u32, e: usize)
+    requires { ⌜ (length (now out) ≤ 256) × (e + length (now out) / 16 * 768 ≤ length (now s)) × (length (now s) ≡ 12288) ⌝ }
+    ensures { λ _. ⌜ Sixteens (now (s .entry)) x y z e (length (now (out .entry))) (length (now (out .entry)) / 16) (now (out .exit)) ⌝ }
+{
+    let mut c = 0;
+    while c < out.len() / 16 {
+        let r = sixteen(s, x, y, z, e + c * 768);
+        let a = 16 * c;
+        let f = a + 16;
+        lanes::write(&mut out[a..f], r);
+        c += 1;
+    }
+}
+
+// The same where the weights are 0 or 1.
+fn fill_plain(out: &mut [u8], s: &[u8], x: u32, y: u32, z: u32, e: usize)
+    requires { ⌜ (x < 16) × (y < 16) × (z < 16) × (length (now out) ≤ 256) × (e + length (now out) / 16 * 768 ≤ length (now s)) × (length (now s) ≡ 12288) ⌝ }
+    ensures { λ _. ⌜ Sixteens (now (s .entry)) x y z e (length (now (out .entry))) (length (now (out .entry)) / 16) (now (out .exit)) ⌝ }
+{
+    let mut c = 0;
+    while c < out.len() / 16 {
+        let r = sixteen_plain(s, x, y, z, e + c * 768);
+        let a = 16 * c;
+        let f = a + 16;
+        lanes::write(&mut out[a..f], r);
+        c += 1;
+    }
+}
+
+// The same, for any weights: which of the two it is, is asked outside their loops.
+fn fill_whole(out: &mut [u8], s: &[u8], x: u32, y: u32, z: u32, e: usize)
+    requires { ⌜ (length (now out) ≤ 256) × (e + length (now out) / 16 * 768 ≤ length (now s)) × (length (now s) ≡ 12288) ⌝ }
+    ensures { λ _. ⌜ Sixteens (now (s .entry)) x y z e (length (now (out .entry))) (length (now (out .entry)) / 16) (now (out .exit)) ⌝ }
 {
     if x < 16 {
         if y < 16 {
             if z < 16 {
-                let r = sixteen_plain(s, x, y, z, e);
-                lanes::write(out, r);
+                fill_plain(out, s, x, y, z, e);
                 return;
             }
         }
     }
-    let r = sixteen(s, x, y, z, e);
-    lanes::write(out, r);
-}
-
-// Out as far as it has whole sixteens; the sums of the first begin at e. (Fewer than sixteen bytes have a way of their own: where a loop puts now
-// sixteen, now fewer, LLVM makes a call of memcpy for each.)
-fn fill_whole(out: &mut [u8], s: &[u8], x: u32, y: u32, z: u32, e: usize)
-    requires { ⌜ (length (now out) ≤ 256) × (e + length (now out) / 16 * 768 ≤ length (now s)) × (length (now s) ≡ 12288) ⌝ }
-    ensures { λ _. ⌜ (length (now (out .exit)) ≡ length (now (out .entry)))
-        × ((i : ℕ) → i < length (now (out .entry)) / 16 * 16 → FirstZero (now (s .entry)) (e + (i / 16 * 768 + i % 16))
-        → getD (now (out .exit)) i 0 ≡ highest (now (s .entry)) x y z (e + (i / 16 * 768 + i % 16)) 8) ⌝ }
-{
-    let mut c = 0;
-    while c < out.len() / 16 {
-        let a = 16 * c;
-        let f = a + 16;
-        put_sums(&mut out[a..f], s, x, y, z, e + c * 768);
-        c += 1;
-    }
+    fill_bits(out, s, x, y, z, e);
 }
 
 // One block's bytes, from the sums of a tile.

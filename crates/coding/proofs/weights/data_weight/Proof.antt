@@ -18,7 +18,7 @@ unfolding coefficient
 returns-2 c =
     let args = c .before .before .args in
     let here : suc (args .i) - 1 ≡ args .i = omega arith in
-    c .inverse .ensures ∙ ap (λ i. inverse (bitXor (args .j - 1) i)) (sym here) ∙ sym (weight-in (args .k) (args .j) (args .i) (omega arith))
+    c .inverse-by .ensures ∙ ap (λ i. inverse (bitXor (args .j - 1) i)) (sym here) ∙ sym (weight-in (args .k) (args .j) (args .i) (omega arith))
 
 pub data-weight-spec : {M : Type 1} → statement M
 data-weight-spec =

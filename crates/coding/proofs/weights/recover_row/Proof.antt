@@ -6,7 +6,7 @@ use lib.ListN.{length, getD}
 use Rattle.kernel.specs.Combine.{nth}
 use Rattle.code.specs.Decode as Decode
 use Rattle.blocks.proofs.Entries.{Entries, entries-none, entries-turn, Untouched, untouched-turn, zeros-at}
-use Rattle.coding.proofs.Weighing.{points-apart, recover-turn}
+use Rattle.coding.proofs.Weighing.{points-apart, one-span, recover-turn}
 use borrow.Author.Needs.{needs}
 use Rattle.coding.proofs.weights.recover_row.Statement.{statement}
 use Rattle.coding.proofs.weights.recover_row.Tie as tie
@@ -20,19 +20,42 @@ abbrev μ-loop : tie.MeasureT-loop
 loop-holds : tie.Need-loop-holds Inv-loop μ-loop
 loop-holds c = (search needs, entries-none _ _ _ refl, λ l h. zeros-at 12 l)
 
-others-requires : tie.Need-others-requires Inv-loop μ-loop
-others-requires c κs = let pre = c .before .pre in (pre .1, pre .2, λ l h d. pre .3 l h, pre .4, pre .5)
+span-requires : tie.Need-span-requires Inv-loop μ-loop
+span-requires c κs = let pre = c .before .pre in (pre .1, pre .2, omega arith, omega arith, λ l h e. pre .3 l e, pre .4, pre .5)
 
 scale-requires : tie.Need-scale-requires Inv-loop μ-loop
 scale-requires c κs = let pre = c .before .before .pre in (pre .1, pre .2 .few, pre .4, pre .5)
 
 over-requires : tie.Need-over-requires Inv-loop μ-loop
-over-requires c κs = (c .before .others .ensures .1, c .scale .ensures .1)
+over-requires c κs =
+    let at-span = c .before in
+    (omega (arith, at-span .before .before .pre .2 .few, at-span .span .ensures .1), c .scale .ensures .1)
 
 sub-logarithm : tie.Need-sub-logarithm Inv-loop μ-loop
 sub-logarithm c =
     let at-loop = c .before .before in
     at-loop .before .before .before .before .before .pre .2 .from (at-loop .loop .q) (omega (arith, c .before .loop-test .taken))
+
+cast-logarithm : tie.Need-cast-logarithm Inv-loop μ-loop
+cast-logarithm c =
+    let in-loop = c .before in
+    let at-nodes = in-loop .before .before .before .before .before in
+    let start = at-nodes .before in
+    let pre = start .pre in
+    let inside = in-loop .loop-test .taken in
+    let q = in-loop .before .loop .q in
+    omega (arith, points-apart (start .args .nodes .now) (pre .2) (λ l. omega (arith, at-nodes .shared-slice-known .given l)) (start .args .j) q (pre .4) (pre .5) (omega (arith, inside)) (pre .3 q (omega (arith, inside))) .1)
+
+logarithm-requires : tie.Need-logarithm-requires Inv-loop μ-loop
+logarithm-requires c κs =
+    let in-loop = c .before in
+    let at-nodes = in-loop .before .before .before .before .before in
+    let start = at-nodes .before in
+    let pre = start .pre in
+    let inside = in-loop .loop-test .taken in
+    let q = in-loop .before .loop .q in
+    let apart = points-apart (start .args .nodes .now) (pre .2) (λ l. omega (arith, at-nodes .shared-slice-known .given l)) (start .args .j) q (pre .4) (pre .5) (omega (arith, inside)) (pre .3 q (omega (arith, inside))) in
+    (pre .1, apart .0, apart .1)
 
 sub-power : tie.Need-sub-power Inv-loop μ-loop
 sub-power c = omega (arith, c .before .logarithm .ensures .0)
@@ -58,8 +81,8 @@ loop-again c =
     let at-loop = in-loop .before in
     let at-over = at-loop .before in
     let at-scale = at-over .before in
-    let at-others = at-scale .before in
-    let at-nodes = at-others .before in
+    let at-span = at-scale .before in
+    let at-nodes = at-span .before in
     let start = at-nodes .before in
     let pre = start .pre in
     let nodes = start .args .nodes .now in
@@ -71,8 +94,8 @@ loop-again c =
     let weight : c .power .result ≡ Decode.recover (length nodes) (nth nodes) j (q + 1) =
     c .power .ensures
     ∙ recover-turn nodes (pre .2) bytes j (pre .4) (pre .5) (pre .3) q (omega (arith, inside)) _ (at-log .logarithm .result) (at-over .over .result) (own .0) (pre .6 .at q (omega (arith, inside)))
-    (own .1 (points-apart nodes (pre .2) bytes j q (pre .4) (pre .5) (omega (arith, inside)) (pre .3 q (omega (arith, inside))) .0))
-    (at-over .over .ensures .0 ∙ rw (at-others .others .ensures .0, at-scale .scale .ensures .0)) in
+    (own .1)
+    (at-over .over .ensures .0 ∙ rw (at-span .span .ensures .0 ∙ one-span (nth nodes) (j - 1) (length nodes) (length nodes + 1) (omega arith), at-scale .scale .ensures .0)) in
     (search needs, entries-turn _ _ _ _ _ (omega (arith, inside, pre .2 .few)) weight (at-loop .loop .inv .1), untouched-turn q (at-loop .loop .r) _ (at-loop .loop .inv .2))
 
 returns : tie.Need-returns Inv-loop μ-loop
@@ -86,14 +109,14 @@ recover-row-spec =
     μ-loop
     (λ c. search needs)
     (λ c. search needs)
-    (λ c. search needs)
-    others-requires
+    span-requires
     scale-requires
     over-requires
     loop-holds
     (λ c. search needs)
     sub-logarithm
-    (λ c κs. search needs)
+    cast-logarithm
+    logarithm-requires
     (λ c. search needs)
     (λ c. search needs)
     sub-power

@@ -14,7 +14,7 @@ others-requires : tie.Need-others-requires
 others-requires c κs =
     let start = c .before .before in
     let q = start .args .q in
-    (start .pre .0, start .pre .1, rising-apart (start .args .nodes .now) (start .pre .2) q (omega arith) (omega arith), start .pre .1 .from (q - 1) (omega arith), omega (arith, c .shared-slice-known2 .given (q - 1)))
+    (start .pre .0, start .pre .1, start .pre .3, start .pre .4, rising-apart (start .args .nodes .now) (start .pre .2) q (omega arith) (omega arith), start .pre .1 .from (q - 1) (omega arith), omega (arith, c .shared-slice-known2 .given (q - 1)))
 
 scale-requires : tie.Need-scale-requires
 scale-requires c κs =

@@ -31,7 +31,7 @@ returns-2 c =
     let whole = at-whole .fill-whole .ensures in (
       whole .0,
       λ i h. whole-is (FirstZero (args .s .now)) (λ k. highest (args .s .now) (args .x) (args .y) (args .z) k 8) (length (args .out .now))
-          (λ i h. start .pre .2 .at i h) (at-whole .fill-whole .last .0) (whole .1) i h (omega arith),
+          (λ i h. start .pre .2 .at i h) (at-whole .fill-whole .last .0) (λ i h. whole .1 i (omega arith)) i h (omega arith),
     )
 
 pub fill-spec : {M : Type 1} → statement M
