@@ -24,7 +24,7 @@ FIELD = [("gf256",), ("blocks", "doublings"), ("kernel", "bits"), ("kernel", "pl
 MULTIPLICATIONS = {
     "exports::mezgaudre_product": "the library's product",
     "gf256::product": "by the two tables",
-    "gf256::inverse": "no product, but by the same tables and with the same care for 0",
+    "gf256::inverse": "no product, but by the same tables",
     "gf256::double": "by x",
     "blocks::doublings::Doublings::of": "a factor made ready for many",
     "blocks::doublings::Doublings::times": "by the bits of the other factor",
@@ -52,7 +52,7 @@ CALLERS = {
     "codecheck::field::products": "prints products",
     "codecheck::field::inverses": "prints inverses",
     "codecheck::field::print": "prints the tables",
-    "coding::weights::data_weight": "which data nodes have a weight, by their number",
+    "coding::weights::data_weight": "an inverse, where there is such a data node",
     "coding::weights::data_weights": "each weight of the redundant nodes",
     "coding::weights::others": "the spans before and after a node",
     "coding::weights::scale": "whether a node is among the data nodes, by its number",

@@ -13,7 +13,11 @@ use Rattle.blocks.proofs.Tables.{table-cong}
 use Rattle.code.specs.Code.{coefficient, symbol}
 use Rattle.kernel.specs.Combine.{nth, mixed, HasBlocks, Rows}
 use Rattle.coding.specs.Weights.{First, dataWeight}
+use Rattle.gf256.specs.Field.{inverse, power}
+use Rattle.gf256.proofs.Laws.{inverse-by-logarithm}
+use Rattle.gf256.proofs.Ring.{_⊕_, Nonzero}
 use Rattle.gf256.proofs.Sum.{All}
+use Rattle.code.proofs.Points.{apart}
 use Rattle.code.proofs.Symbols.{symbol-redundant}
 use Rattle.coding.proofs.Weighing.{data-length, data-at, data-nth}
 use Rattle.kernel.proofs.Mixed.{mixed-is}
@@ -26,6 +30,18 @@ module _ (k j i : ℕ) where
   pub weight-out : k ≤ i → dataWeight k j i ≡ 0
   unfolding dataWeight
   weight-out l = rw (le-ltb i k l)
+
+  -- a redundant node's point is none of the data nodes', and the weight is the inverse of what they differ by
+  pub weight-nonzero : i < k → k < j → j ≤ 256 → Nonzero ((j - 1) ⊕ i)
+  weight-nonzero l past small =
+      let here : suc i - 1 ≡ i = omega arith in
+      rw here at (apart j (suc i) (omega arith) small (omega arith) (omega arith) (omega arith))
+
+  pub weight-by-logarithm : i < k → (m : ℕ) → m < 255 → power m ≡ (j - 1) ⊕ i → power (255 - m) ≡ dataWeight k j i
+  unfolding coefficient
+  weight-by-logarithm l m lm e =
+      let here : suc i - 1 ≡ i = omega arith in
+      inverse-by-logarithm m ((j - 1) ⊕ i) lm e ∙ ap (λ i. inverse ((j - 1) ⊕ i)) (sym here) ∙ sym (weight-in l)
 
 module _ (b : ℕ) (t nodes : List ℕ) (f : First nodes) (k : ℕ) (k12 : k ≤ 12) where
   pub data-held : k * b ≤ length t → HasBlocks b t (take k nodes)

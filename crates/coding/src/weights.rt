@@ -22,13 +22,14 @@ pub fn data_nodes() -> [u8; Limits::DATA_MOST]
 
 // The weight of the data node that i nodes stand before in the redundant node j; 0 past the k data nodes.
 fn data_weight(powers: &[u8; 255], logarithms: &[u8; 256], k: usize, j: usize, i: usize) -> u8
-    requires { ⌜ IsPowers (now powers) × IsLogarithms (now logarithms) × (k ≤ dataLimit) × (1 ≤ j) × (j ≤ 256) ⌝ }
+    requires { ⌜ IsPowers (now powers) × IsLogarithms (now logarithms) × (k ≤ dataLimit) × (k < j) × (j ≤ 256) ⌝ }
     ensures { λ r. ⌜ r ≡ dataWeight k j i ⌝ }
 {
     if k <= i {
         return 0;
     }
-    gf256::inverse_by(powers, logarithms, (j - 1) as u8 ^ i as u8)
+    let apart = gf256::logarithm(logarithms, ((j - 1) as u8 ^ i as u8) as usize);
+    gf256::power(powers, 255 - apart)
 }
 
 // The twelve weights of each of the m redundant nodes after k.

@@ -49,34 +49,38 @@ pub fn logarithm(logarithms: &[u8; 256], i: usize) -> usize
     logarithms[i] as usize
 }
 
-// The inverse of a; 0 of 0.
-pub fn inverse_by(powers: &[u8; 255], logarithms: &[u8; 256], a: u8) -> u8
-    requires { ⌜ IsPowers (now powers) × IsLogarithms (now logarithms) ⌝ }
-    ensures { λ r. ⌜ r ≡ Field.inverse a ⌝ }
+// ---- by tables of their own, each on the stack for one function alone: with both there at once every call of a stripe takes longer
+
+fn own_power(i: usize) -> u8
+    ensures { λ r. ⌜ r ≡ Field.power i ⌝ }
 {
-    let r = power(powers, 255 - logarithm(logarithms, index(a)));
-    unless_zero(a, r)
+    let powers = powers::table();
+    power(&powers, i)
 }
 
-// ---- by tables of their own
+fn own_logarithm(i: usize) -> usize
+    requires { ⌜ (1 ≤ i) × (i < 256) ⌝ }
+    ensures { λ r. ⌜ (r < 255) × (Field.power r ≡ i) ⌝ }
+{
+    let logarithms = logarithms::table();
+    logarithm(&logarithms, i)
+}
 
 pub fn product(a: u8, b: u8) -> u8
     ensures { λ r. ⌜ r ≡ Field.product a b ⌝ }
 {
-    let powers = powers::table();
     let logarithms = logarithms::table();
     let i = logarithm(&logarithms, index(a));
     let j = logarithm(&logarithms, index(b));
-    unless_zero(a, unless_zero(b, power(&powers, i + j)))
+    unless_zero(a, unless_zero(b, own_power(i + j)))
 }
 
 // The inverse of a; 0 of 0.
 pub fn inverse(a: u8) -> u8
     ensures { λ r. ⌜ r ≡ Field.inverse a ⌝ }
 {
-    let powers = powers::table();
-    let logarithms = logarithms::table();
-    inverse_by(&powers, &logarithms, a)
+    let r = own_power(255 - own_logarithm(index(a)));
+    unless_zero(a, r)
 }
 
 // x times a.
