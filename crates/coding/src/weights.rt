@@ -56,7 +56,8 @@ pub fn data_weights(k: usize, m: usize) -> [u8; Limits::REDUNDANT_MOST * Limits:
 
 // ---- the recovering weights, by their logarithms, which are added up: of twelve factors at most
 
-// The logarithm of the product, over the nodes after the first a up to the eth, of the sum of its point and that of node j, which is none of them.
+// The logarithm of the product, over the nodes after the first a up to the eth, of the sum of each one's point and that of node j, which is none of
+// them.
 fn span(logarithms: &[u8; 256], nodes: &[u8], a: usize, e: usize, j: usize) -> usize
     requires { ⌜ IsLogarithms (now logarithms) × Nodes (now nodes) × (a ≤ e) × (e ≤ length (now nodes)) × ApartIn (now nodes) a e j × (1 ≤ j) × (j ≤ 256) ⌝ }
     ensures { λ r. ⌜ (Field.power r ≡ factors (nth (now (nodes .entry))) a (e - a) (j - 1)) × (r ≤ 254 * (e - a)) ⌝ }

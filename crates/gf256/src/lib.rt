@@ -49,7 +49,7 @@ pub fn logarithm(logarithms: &[u8; 256], i: usize) -> usize
     logarithms[i] as usize
 }
 
-// ---- by tables of their own, each on the stack for one function alone: with both there at once every call of a stripe takes longer
+// ---- by tables of their own, each on the stack for one function alone (docs/DECISIONS.md, "The field multiplication", says why)
 
 fn own_power(i: usize) -> u8
     ensures { λ r. ⌜ r ≡ Field.power i ⌝ }
