@@ -1,5 +1,5 @@
 //! What a swap, an add and a whole rebuild cost on lent tables in the largest stripe, beside the same calls in plain Rust (`plain.rs`), in one run, on
-//! tables at the same places of a page; a tick beside a lock; and an image beside a copy of the three tables.
+//! tables at the same places of a page; a tick beside a lock; an image beside a copy of the three tables; and a read beside one of blocks of one byte.
 use mezgaudre::image_length;
 use plain::{Client, Node, Sizes, Stripe};
 use std::cmp::Ordering;
@@ -35,6 +35,12 @@ const IMAGES: Work = Work {
     most: 64,
 };
 
+const READS: Work = Work {
+    number: 0, // nor are reads
+    least: 1,
+    most: 1024,
+};
+
 #[link(name = "callbench", kind = "static")]
 extern "C" {
     fn callbench_images(
@@ -48,6 +54,14 @@ extern "C" {
         spare_length: usize,
         out: *mut u8,
         out_length: usize,
+    ) -> u8;
+    fn callbench_reads(
+        calls: usize,
+        b: usize,
+        blocks: *const u8,
+        blocks_length: usize,
+        spare: *const u8,
+        spare_length: usize,
     ) -> u8;
 }
 
@@ -217,6 +231,44 @@ fn image_and_copy() -> [f64; 2] {
     )
 }
 
+/// So many reads of positions 1 to 12 in turn. Safety: each pointer and its length come from one slice.
+fn reads(calls: usize, tables: &mut Tables) -> u8 {
+    let b = tables.b;
+    let [blocks, spare, _] = tables.bytes();
+    unsafe {
+        callbench_reads(
+            calls,
+            b,
+            blocks.as_ptr(),
+            blocks.len(),
+            spare.as_ptr(),
+            spare.len(),
+        )
+    }
+}
+
+/// ns of a read of a stripe by value, its answer and the part that it names, at blocks of 1 and of 4,096 bytes.
+fn reads_of_both() -> [f64; 2] {
+    let (mut small, mut large) = (Tables::new(LENGTHS[0]), Tables::new(LENGTHS[2]));
+    for tables in [&mut small, &mut large] {
+        let b = tables.b;
+        let [blocks, _, _] = tables.bytes();
+        for i in 0..K {
+            blocks[i * b] = 1 << (i % 8);
+        }
+        assert_eq!(reads(8, tables), 255);
+    }
+    one_of_each(
+        [READS, READS],
+        |calls| {
+            black_box(reads(calls, black_box(&mut small)));
+        },
+        |calls| {
+            black_box(reads(calls, black_box(&mut large)));
+        },
+    )
+}
+
 fn main() {
     println!("ns            B      proved  plain Rust   ratio");
     let aims = [
@@ -237,6 +289,8 @@ fn main() {
     println!("with 16 entries at each node, a tick: {tick:.0} ns, a lock: {lock:.0} ns");
     let [image, copy] = image_and_copy();
     println!("an image at 4096: {image:.0} ns, a memcpy of its three tables: {copy:.0} ns");
+    let [small, large] = reads_of_both();
+    println!("a read at 1: {small:.0} ns, at 4096: {large:.0} ns");
     println!("(12,18), 8 clients, lent tables, all in the cache. A swap is one of 8 at one node, one by each client; an add is one of 48, one by each client at each redundant node; the first call and the making of the tables are not in their time. A rebuild is 18 locks, a pick, 18 writes, 18 settles and 18 unlocks with 6 nodes lost, and the making of its tables. A tick is one of 256 on nodes with 16 entries each.");
     for (name, ratios, [small, large]) in aims {
         for (b, ratio, most) in [(1, ratios[0], small), (4096, ratios[2], large)] {
@@ -252,5 +306,12 @@ fn main() {
         ratio,
         "at most 1.5",
         ratio <= 1.5,
+    );
+    let ratio = large / small;
+    met(
+        "a read at 4096, times one at 1",
+        ratio,
+        "at most 1.1",
+        ratio <= 1.1,
     );
 }

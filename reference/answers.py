@@ -16,3 +16,13 @@ class Answer(NamedTuple):
 
 
 ACCEPTED = Answer(0)
+
+# the tables that a read shows a block of
+LIVE, SPARE = "live", "spare"
+
+
+class Shown(NamedTuple):
+    """What an accepted read returns: the block, and which table it is of."""
+
+    block: bytes
+    table: str

@@ -1,6 +1,7 @@
-"""Kinds of states, for counting what the images of lists show."""
+"""Kinds of states, for counting what the images of lists show, and kinds of reads."""
 
-from stripe import EXP, LOCKING, PICKING, SETTLING, UNLOCKING, WRITING
+from code import block
+from stripe import EXP, INIT, LOCKING, PICKING, RECONS, SETTLING, UNL, UNLOCKING, WRITING
 from stripe import Client, Entry, Node
 
 PHASES = {WRITING: "writing", SETTLING: "settling", UNLOCKING: "unlocking"}
@@ -68,3 +69,80 @@ def of_stripe(stripe):
     """The kinds of its sizes, its nodes and its clients."""
     nodes = map(of_node, stripe.nodes.values())
     return of_sizes(stripe.sizes).union(*nodes, *map(of_client, stripe.clients.values()))
+
+
+# -------------------------------------------------------------------- reads
+
+# What reads are answered and when: all that lists are to reach.
+READS = [
+    *["live read", "live read beside a held node"],
+    *["spare read in the write phase", "spare read in the settle phase", "spare read before the first unlock"],
+    *["spare read of an INIT node", "spare read beside an INIT node", "spare read in a resumed rebuild"],
+    *["spare read of other bytes than the live ones", "spare read of nodes all locked since another client's pick"],
+    *["read refused in the lock phase", "read refused in the pick phase", "read refused beside a weakened node"],
+    *["read refused after the first unlock", "read refused beside a failed node"],
+    *["read refused beside a node of another client", "read refused of a node locked since another client's pick"],
+    "read refused of nodes all locked since another client's pick",
+    *["read refused of a failed node", "read refused at EXP"],
+    *["read refused of a redundant node", "read refused of no node"],
+]
+
+
+def of_read(stripe, i, answer):
+    """What a read of i was answered, once with each circumstance. The read has changed nothing."""
+    answered = f"{answer.value.table} read" if answer.accepted else "read refused"
+    return {f"{answered} {when}".strip() for when in circumstances(stripe, i)}
+
+
+def circumstances(stripe, i):
+    if not stripe.is_position(i):
+        return {"of a redundant node" if stripe.is_redundant(i) else "of no node"}
+    node = stripe.nodes[i]
+    if node.is_free():
+        return {"", *(["beside a held node"] if any(other.holder for other in stripe.nodes.values()) else [])}
+    if node.holder is None:
+        return {"at EXP" if node.lmode == EXP else "of a failed node"}
+    return set(of_held(stripe, i, stripe.clients[node.holder]))
+
+
+def of_held(stripe, i, holder):
+    """Of a node i that the client holds."""
+    if holder.has_picked():
+        yield from of_some_held(stripe, holder) if not_held(stripe, holder) else of_all_held(stripe, i, holder)
+    elif holder.rebuild is not None:
+        yield f"in the {holder.rebuild.phase} phase"
+        if holder.rebuild.untightened:
+            yield "beside a weakened node"
+    if any(other.has_picked() for other in stripe.clients.values() if other is not holder):
+        yield "of a node locked since another client's pick"
+        if not not_held(stripe, holder):
+            yield "of nodes all locked since another client's pick"
+
+
+def not_held(stripe, holder):
+    """The nodes that the client does not hold."""
+    return [node for node in stripe.nodes.values() if stripe.clients.get(node.holder) is not holder]
+
+
+def of_some_held(stripe, holder):
+    """The holder has picked, and holds some nodes no more."""
+    others = not_held(stripe, holder)
+    if holder.in_phase(UNLOCKING) and holder.rebuild.count > 0:
+        yield "after the first unlock"
+    if any(node.opmode == INIT and node.lmode == UNL for node in others):
+        yield "beside a failed node"
+    if any(node.holder for node in others):
+        yield "beside a node of another client"
+
+
+def of_all_held(stripe, i, holder):
+    """The holder has picked, and holds all nodes."""
+    yield "before the first unlock" if holder.in_phase(UNLOCKING) else f"in the {holder.rebuild.phase} phase"
+    if stripe.nodes[i].opmode == INIT:
+        yield "of an INIT node"
+    elif stripe.with_opmode(INIT):
+        yield "beside an INIT node"
+    if holder.in_phase(WRITING) and any(j > holder.rebuild.count for j in stripe.with_opmode(RECONS)):
+        yield "in a resumed rebuild"
+    if stripe.block(i) != block(stripe.spare, i, stripe.sizes.B):
+        yield "of other bytes than the live ones"

@@ -1,16 +1,16 @@
 """Random scripts for striperun and shelfrun.
 
     lists.py --seed S --calls N [--sizes k,n,B,td,m]    a striperun script
-    lists.py --shelf --seed S --lines N                 shelfrun input, a tenth of its lines damaged
+    lists.py --shelf --seed S --lines N                 shelfrun input, about a tenth of its lines damaged
     lists.py ... --long writes|epochs                   first up to the limit of 1,000,000, then N calls
     lists.py ... --count                                to standard error: how often each answer occurs
 
 The author of a script drives the machine, so that it knows what is plausible
 next: most rebuilds that begin also finish, and stops, failures, resumed
 rebuilds, full lists and late adds occur often. Where the program knows ticks,
-nodes come due by age, and ages reach 255. Now and then, and at the end, a line
-M asks for the image, which only striperun shows. The same options give the
-same script.
+nodes come due by age, and ages reach 255. Reads come at any time, most of them
+while a rebuild runs. Now and then, and at the end, a line M asks for the image,
+which only striperun shows. The same options give the same script.
 """
 
 import argparse
@@ -95,6 +95,17 @@ class Author:
     def image_line(self, rng):
         return IMAGE_LINE
 
+    def read_share(self):
+        """How many of the lines are now followed by a read."""
+        if any(client.has_picked() for client in self.stripe.clients.values()):
+            return 0.25
+        return 0.02 if self.all_free() else 0.1
+
+    def read_line(self, rng):
+        """A read of some position, or of a number that is near one."""
+        k, n = self.stripe.sizes.k, self.stripe.sizes.n
+        return text("read", rng.randint(0, n + 1) if rng.random() < 0.05 else rng.randint(1, k))
+
     def next_call(self):
         if self.chance(0.02):
             return text("due", self.odd_number(self.stripe.sizes.n))
@@ -102,7 +113,7 @@ class Author:
             return self.plan.pop(0)
         if self.chance(self.arbitrary):
             return self.arbitrary_call()
-        if not self.plan and self.chance(0.04 if self.all_free() else 0.01):
+        if not self.plan and self.chance(0.05 if self.all_free() else 0.01):
             self.plan = self.new_plan()
         return self.plausible_call()
 
@@ -265,7 +276,7 @@ class Author:
         plans = [self.race, self.overtaken, self.late_failure, self.resume]
         if self.all_free() and self.chance(0.8):
             plans = [self.late_add, self.weakened_add, self.tidied_previous, self.half_marked]
-            plans += [self.crowd, self.many_done]
+            plans += [self.crowd, self.many_done, self.taken, self.left_over]
         plan = self.rng.choice(plans)(*self.two_clients())
         # A rebuild before it leaves no other write half done.
         return self.repair(self.client()) + plan if self.chance(0.5) else plan
@@ -329,6 +340,21 @@ class Author:
         if self.chance(0.7):
             locks += [text("quit", c)] + locks
         return [text("lock", d)] * (len(lost) + 1) + failures + locks + [text("lock", c)]
+
+    def taken(self, c, d):
+        """c has picked, and loses nodes to d; one that is lost is read, and one that is perhaps not."""
+        lost = range(1, self.rng.randint(1, 2) + 1)
+        failures = [text("fail", j, self.value()) for j in lost]
+        reads = [text("read", 1), text("read", self.stripe.sizes.k)]
+        begun = self.locks_and_pick(c) + self.up_to_n("write", c) + reads + failures + reads
+        return begun + [text("lock", d)] * len(lost) + reads + [text("lock", d)] + self.n_times("write", c)
+
+    def left_over(self, c, d):
+        """d has picked and its last node fails before the unlock; c locks all nodes and picks, and is read."""
+        n = self.stripe.sizes.n
+        finished = self.whole_rebuild(d)[:-1] + [text("fail", n, self.value())]
+        read = text("read", self.position())
+        return finished + self.n_times("lock", c) + [read, text("pick", c), read]
 
     def late_add(self, c, d):
         """c's adds come after d has left its rebuild half way."""
@@ -623,11 +649,24 @@ def played(author, lines):
 IMAGES = 0.02
 
 
-def with_images(author, lines, seed, damaged=0.1):
-    """The author's lines, with lines for the image in between and at the end. Damaged: the share of these.
+def whole_list(author, count, seed, damaged=0.1):
+    """The author's lines, so many, with reads and lines for the image in between. Damaged: the share of these last.
 
-    Where they stand goes by numbers of their own, so that the lines are the same without them.
+    Where they stand goes by numbers of their own, so that the author's lines are the same without them.
     """
+    return with_images(author, with_reads(author, author.lines(count), seed), seed, damaged)
+
+
+def with_reads(author, lines, seed):
+    rng = random.Random(f"reads {seed}")
+    for line in lines:
+        yield line
+        if rng.random() < author.read_share():
+            yield from played(author, [author.read_line(rng)])
+
+
+def with_images(author, lines, seed, damaged):
+    """The last line is one for the image too."""
     rng = random.Random(f"images {seed}")
     for line in lines:
         yield line
@@ -651,12 +690,12 @@ def stripe_script(seed, calls, sizes=None):
     sizes = sizes or random_sizes(rng)
     yield " ".join(map(str, sizes)).encode()
     author = stripe_author(rng, sizes)
-    yield from with_images(author, author.lines(calls), seed)
+    yield from whole_list(author, calls, seed)
 
 
 def shelf_script(seed, count):
     author = shelf_author(random.Random(seed))
-    yield from with_images(author, author.lines(count), seed)
+    yield from whole_list(author, count, seed)
 
 
 def main():
@@ -682,7 +721,7 @@ def main():
     if options.long:
         for line in played(author, LONG[options.long]()):
             out.write(line + b"\n")
-    for line in with_images(author, author.lines(options.calls), options.seed):
+    for line in whole_list(author, options.calls, options.seed):
         out.write(line + b"\n")
     if options.count:
         print(dict(sorted(author.answers.items())), file=sys.stderr)

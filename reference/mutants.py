@@ -4,9 +4,10 @@ Each mutant is the text of stripe.py, of volume.py or of image.py, with one
 edit. A mutant is noticed by a list if the output of striperun, or of
 volumerun, differs from that without the edit. A stripe's mutants with a list
 of their own break the claim of guarantee.py, which must say so on that list;
-those of ages are noticed by their own list only. A volume's mutants are
-noticed by their own list, and by each stripe's calls made alone on it
-(takenout.py); those of its limits by their own list only. An image's mutants
+those of ages, and those of reads that show what they may, are noticed by their
+own list only, and one of reads by records that no list reaches. A volume's
+mutants are noticed by their own list, and by each stripe's calls made alone on
+it (takenout.py); those of its limits by their own list only. An image's mutants
 are noticed by their own list, which has M lines; those that go wrong with a
 buffer of another length, or with what is outside the limits, by calls that
 must be refused.
@@ -17,6 +18,7 @@ must be refused.
 import argparse
 import copy
 import types
+from itertools import product
 from pathlib import Path
 from typing import NamedTuple
 
@@ -29,7 +31,7 @@ import volumelists
 import volumerun
 from answers import Answer
 from script import answer_of, read_call, spelled_out
-from stripe import Rebuild, Sizes, WriteId
+from stripe import L0, Rebuild, Sizes, WriteId
 
 FOLDER = Path(__file__).parent
 STRIPE = (FOLDER / "stripe.py").read_text()
@@ -47,6 +49,13 @@ class Mutant(NamedTuple):
     new: str
     own: str = ""  # a list of its own, calls separated by commas
 
+
+# Lists for the mutants of reads, and what a read shows.
+DONE = "S 1 1 01, A 1 3, A 1 4"
+PICK = "L 1 x4, P 1"
+REBUILT = f"{PICK}, W 1 x4, T 1 x4, U 1 x4"
+LIVE_SHOWN = "Shown(self.block(i), LIVE)"
+SPARE_SHOWN = "Shown(block(self.spare, i, self.sizes.B), SPARE)"
 
 MUTANTS = [
     # The slips seen on the rig, and others that break demand 3.
@@ -120,6 +129,53 @@ MUTANTS = [
         "        if self.with_opmode(RECONS):\n            return Answer(3)\n",
         "",
         "2 4 1 1 2, S 2 1 01, L 1 x4, P 1, W 1, Q 1, L 1 x4, O 1, A 2 3, A 2 4",
+    ),
+    # Reads that show what no first part of the swaps gave, or one without a done write.
+    Mutant(
+        "the spare shown before the pick",
+        "self.rebuild.phase in (WRITING, SETTLING, UNLOCKING)",
+        "self.rebuild.phase in (PICKING, WRITING, SETTLING, UNLOCKING)",
+        "2 4 1 1 2, L 1 x4, R 1",
+    ),
+    Mutant(
+        "the spare of an earlier rebuild shown",
+        "self.rebuild is not None and self.rebuild.phase in (WRITING, SETTLING, UNLOCKING)",
+        "self.rebuild is not None",
+        f"2 4 1 1 2, {REBUILT}, {DONE}, L 1 x4, R 1",
+    ),
+    Mutant(
+        "the spare shown at EXP",
+        "if self.lets_read_spare(node.holder):",
+        "if node.lmode == EXP or self.lets_read_spare(node.holder):",
+        f"2 4 1 1 2, {REBUILT}, {DONE}, L 1 x4, C 1, R 1",
+    ),
+    Mutant(
+        "live and spare exchanged",
+        f"            return Answer(0, {LIVE_SHOWN})\n"
+        "        if self.lets_read_spare(node.holder):\n"
+        f"            return Answer(0, {SPARE_SHOWN})\n",
+        f"            return Answer(0, {SPARE_SHOWN})\n"
+        "        if self.lets_read_spare(node.holder):\n"
+        f"            return Answer(0, {LIVE_SHOWN})\n",
+        "2 4 1 1 2, R 1",
+    ),
+    Mutant(
+        "the live block shown as the spare's",
+        SPARE_SHOWN,
+        "Shown(self.block(i), SPARE)",
+        f"2 4 1 1 2, {DONE}, N 1 77, {PICK}, R 1",
+    ),
+    Mutant(
+        "block 1 of the spare for all",
+        "block(self.spare, i, self.sizes.B)",
+        "block(self.spare, 1, self.sizes.B)",
+        f"2 4 1 1 2, {DONE}, {PICK}, R 2",
+    ),
+    Mutant(
+        "a failed node's bytes shown",
+        f"        if node.is_free():\n            return Answer(0, {LIVE_SHOWN})",
+        f"        if node.lmode == UNL:\n            return Answer(0, {LIVE_SHOWN})",
+        "2 4 1 1 2, N 1 77, R 1",
     ),
     # A tick that changes more than ages.
     Mutant(
@@ -377,6 +433,92 @@ AGE_MUTANTS = [
 ]
 
 
+READ_MUTANTS = [
+    Mutant(
+        "the spare reported as live",
+        SPARE_SHOWN,
+        SPARE_SHOWN.replace("SPARE", "LIVE"),
+        f"2 4 1 1 2, {PICK}, R 1",
+    ),
+    Mutant(
+        "the live table reported as the spare",
+        LIVE_SHOWN,
+        LIVE_SHOWN.replace("LIVE", "SPARE"),
+        "2 4 1 1 2, R 1",
+    ),
+    Mutant(
+        "one node held is enough",
+        "has_picked() and self.holds_all_at_L1(c)",
+        "has_picked()",
+        f"2 4 1 1 2, {PICK}, N 4 00, R 1",
+    ),
+    Mutant(
+        "all data nodes held are enough",
+        "has_picked() and self.holds_all_at_L1(c)",
+        "has_picked() and all(self.nodes[i].held_by(c) for i in self.positions())",
+        f"2 4 1 1 2, {PICK}, N 4 00, R 1",
+    ),
+    Mutant(
+        "nodes of another client count as held",
+        "has_picked() and self.holds_all_at_L1(c)",
+        "has_picked() and all(node.lmode == L1 for node in self.nodes.values())",
+        f"2 4 1 1 2, {PICK}, N 1 00, L 2, R 2",
+    ),
+    Mutant(
+        "another client's pick counts",
+        "self.clients[c].has_picked() and",
+        "any(client.has_picked() for client in self.clients.values()) and",
+        "2 4 1 1 2, L 2 x4, P 2, N 1 00, N 2 00, N 3 00, N 4 00, L 1 x4, R 1",
+    ),
+    Mutant(
+        "the spare shown after the first unlock",
+        "has_picked() and self.holds_all_at_L1(c)",
+        "has_picked() and (self.clients[c].in_phase(UNLOCKING) or self.holds_all_at_L1(c))",
+        f"2 4 1 1 2, {PICK}, W 1 x4, T 1 x4, U 1, R 2",
+    ),
+    *[
+        Mutant(
+            f"4 kept in the {phase} phase",
+            "phase in (WRITING, SETTLING, UNLOCKING)",
+            f"phase in ({others})",
+            f"2 4 1 1 2, {PICK}{calls}, R 1",
+        )
+        for phase, others, calls in [
+            ("write", "SETTLING, UNLOCKING", ""),
+            ("settle", "WRITING, UNLOCKING", ", W 1 x4"),
+            ("unlock", "WRITING, SETTLING", ", W 1 x4, T 1 x4"),
+        ]
+    ],
+    *[
+        Mutant(
+            f"4 kept of {opmode} nodes",
+            "if self.lets_read_spare(node.holder):",
+            f"if node.opmode != {opmode} and self.lets_read_spare(node.holder):",
+            f"2 4 1 1 2, {calls}, R 1",
+        )
+        for opmode, calls in [("NORM", PICK), ("RECONS", f"{PICK}, W 1"), ("INIT", f"N 1 00, {PICK}")]
+    ],
+    Mutant(
+        "4 kept beside an INIT node",
+        "if self.lets_read_spare(node.holder):",
+        "if not self.with_opmode(INIT) and self.lets_read_spare(node.holder):",
+        f"2 4 1 1 2, N 4 00, {PICK}, R 1",
+    ),
+    Mutant(
+        "a redundant node's block shown",
+        "        if not self.is_position(i):\n",
+        "        if not self.is_node(i):\n",
+        f"2 4 1 1 2, {PICK}, R 3",
+    ),
+]
+
+READ_AT_L0 = Mutant(
+    "a node held at L0 is enough",
+    "has_picked() and self.holds_all_at_L1(c)",
+    "has_picked() and self.holds_all(c)",
+)
+
+
 VOLUME_MUTANTS = [
     Mutant(
         "rotation reversed",
@@ -483,6 +625,14 @@ VOLUME_MUTANTS = [
         )
         for records in ["nodes", "clients", "blocks", "differences"]
     ],
+    Mutant(
+        "a block of the live table only",
+        '        return self.on_stripe(s, Call("read", (i,)))\n',
+        '        answer = self.on_stripe(s, Call("read", (i,)))\n'
+        "        shows_spare = answer.accepted and answer.value.table == 'spare'\n"
+        "        return Answer(4, ('NORM', 'L1')) if shows_spare else answer\n",
+        "2 2 4 1 0 1, 1 L 1 x4, 1 P 1, RB 2",
+    ),
     Mutant("position without the 1", "b // k, b % k + 1", "b // k, b % k", "2 2 4 1 0 1, SB 1 1 01, ? 0"),
     Mutant("home by position", "b // k, b % k + 1", "b % k, b // k + 1", "2 2 4 1 0 1, SB 1 1 01, ? 0"),
 ]
@@ -697,6 +847,18 @@ def goes_apart(module, lines):
     return False
 
 
+def refuses_at_L0(module):
+    """Whether no block is shown, past a pick, where a node is held at L0; no list reaches that."""
+    for calls, j in product(["", ", W 1 x4", ", W 1 x4, T 1 x4"], range(1, 5)):
+        stripe = stripe_maker(module)(Sizes(2, 4, 1, 1, 2))
+        for line in spelled_out(f"{PICK}{calls}"):
+            answer_of(stripe, read_call(line))
+        stripe.nodes[j].set_lock(L0, 1)
+        if any(stripe.read(i).number != 4 for i in (1, 2)):
+            return False
+    return True
+
+
 def differs(module, lines):
     """Whether striperun's output differs."""
     return unequal(striperun.run(lines), striperun.run(lines, stripe_maker(module)))
@@ -807,8 +969,10 @@ def unnoticed(mutants, source, scripts, differs, breaks, text):
 def check_own_lists():
     for mutant in MUTANTS:
         check_breaking(mutant)
-    for mutant in AGE_MUTANTS:
+    for mutant in AGE_MUTANTS + READ_MUTANTS:
         check_noticed(mutant, STRIPE, differs)
+    if refuses_at_L0(mutated(READ_AT_L0)):
+        raise Unnoticed(READ_AT_L0.name)
     for mutant in VOLUME_MUTANTS + VOLUME_LIMITS:
         check_noticed(mutant, VOLUME, volume_differs)
     for mutant in VOLUME_MUTANTS:
@@ -829,7 +993,8 @@ def main():
     scripts = [list(lists.stripe_script(seed, 2000)) for seed in seeds]
     volume_scripts = [list(volumelists.volume_script(seed, 1000)) for seed in seeds]
     check_own_lists()
-    names = unnoticed(MUTANTS + AGE_MUTANTS, STRIPE, scripts, differs, breaks_claim, "break the claim")
+    stripes = MUTANTS + AGE_MUTANTS + READ_MUTANTS
+    names = unnoticed(stripes, STRIPE, scripts, differs, breaks_claim, "break the claim")
     names += unnoticed(VOLUME_MUTANTS, VOLUME, volume_scripts, volume_differs, goes_apart, "go apart")
     shown = [stripes_shown(lines) for lines in scripts]
     names += unnoticed(IMAGE_MUTANTS, IMAGE, shown, writes_otherwise, misreads, "are not read back")

@@ -18,11 +18,12 @@ import limits
 import lists
 import mutants
 import shelfrun
+import stripe as machine
 import striperun
 import takenout
 import volumelists
 import volumerun
-from answers import ACCEPTED, Answer
+from answers import ACCEPTED, Answer, Shown
 from script import answer_of, lines_of, read_call, read_volume_call, spelled_out
 from stripe import EXP, INIT, L0, L1, LOCKING, MAX_EPOCH, MAX_WRITES, NORM, PICKING, RECONS, UNL
 from stripe import Client, Entry, Hand, Node, Rebuild, Sizes, WriteId
@@ -269,6 +270,142 @@ def test_ages_along_lists():
         must(asked[age] > 3, f"asked at {age} only {asked[age]} times")
 
 
+# -------------------------------------------- reads while a rebuild runs
+
+
+def reads(calls, sizes="2 4 1 1 2"):
+    """What striperun shows for each read of a list."""
+    lines = list(spelled_out(calls))
+    output = striperun.run([sizes.encode(), *lines])
+    return [shown.split(" | ")[0] for line, shown in zip(lines, output, strict=True) if line.startswith(b"R ")]
+
+
+# client 2 has locked, picked and settled all; FRIDAY's write is kept
+PICKED = f"{FRIDAY}, L 2 x4, P 2"
+SETTLED = f"{PICKED}, W 2 x4, T 2 x4"
+LIVE_SHOWN = ["0 block=01 live", "0 block=00 live"]
+SPARE_SHOWN = ["0 block=01 spare", "0 block=00 spare"]
+
+
+def test_reads_of_each_phase():
+    """From the pick to the first unlock both positions are read from the spare."""
+    equal(reads(f"{FRIDAY}, R 1, R 2"), LIVE_SHOWN)
+    equal(reads(f"{FRIDAY}, L 2, R 1, R 2"), ["4 NORM,L1", LIVE_SHOWN[1]])
+    equal(reads(f"{FRIDAY}, L 2 x4, R 1, R 2"), ["4 NORM,L1"] * 2)
+    for nodes in range(5):
+        equal(reads(f"{PICKED}, W 2 x{nodes}, R 1, R 2"), SPARE_SHOWN)
+        equal(reads(f"{PICKED}, W 2 x4, T 2 x{nodes}, R 1, R 2"), SPARE_SHOWN)
+    equal(reads(f"{SETTLED}, U 2, R 1, R 2"), [LIVE_SHOWN[0], "4 NORM,L1"])
+    for nodes in range(2, 5):
+        equal(reads(f"{SETTLED}, U 2 x{nodes}, R 1, R 2"), LIVE_SHOWN)
+
+
+def test_reads_before_the_pick():
+    """Also while weakened, after a pick that was refused, and after one of an earlier rebuild."""
+    equal(reads("L 2 x4, O 2, R 1, I 2, R 1, I 2, R 1, P 2, R 1"), ["4 NORM,L1"] * 3 + ["0 block=00 spare"])
+    equal(reads("S 1 1 01, A 1 3, L 2 x4, P 2, R 1", "2 4 1 2 2"), ["4 NORM,L1"])
+    equal(reads(f"{SETTLED}, U 2 x4, L 2 x4, R 1, P 2, R 1"), ["4 NORM,L1", SPARE_SHOWN[0]])
+    equal(reads(f"{PICKED}, Q 2, R 1, L 2 x4, R 1, P 2, R 1"), ["4 NORM,EXP", "4 NORM,L1", SPARE_SHOWN[0]])
+
+
+def test_reads_of_INIT_nodes():
+    """An INIT node that is held is a node held. Whichever fails, FRIDAY's write is kept."""
+    equal(reads(f"{FRIDAY}, N 1 77, R 1, L 2 x4, R 1, R 2"), ["4 INIT,UNL", "4 INIT,L1", "4 NORM,L1"])
+    for failed in range(1, 5):
+        begun = f"{FRIDAY}, N {failed} 77, L 2 x4, P 2"
+        for calls in ["", ", W 2", ", W 2 x4, T 2", ", W 2 x4, T 2 x4"]:
+            equal(reads(f"{begun}{calls}, R 1, R 2"), SPARE_SHOWN)
+
+
+def test_reads_with_a_lost_node():
+    """A node that has failed since is not held."""
+    equal(reads(f"{PICKED}, N 4 77, R 1, R 2"), ["4 NORM,L1"] * 2)
+    equal(reads(f"{PICKED}, N 1 77, R 1, R 2"), ["4 INIT,UNL", "4 NORM,L1"])
+    equal(reads(f"{PICKED}, W 2, N 4 77, R 1, R 2"), ["4 RECONS,L1", "4 NORM,L1"])
+    equal(reads(f"{PICKED}, W 2 x4, N 3 77, R 1, T 2, R 1"), ["4 RECONS,L1", "4 RECONS,EXP"])
+    equal(reads(f"{SETTLED}, N 4 77, R 1, U 2, R 1"), ["4 NORM,L1", LIVE_SHOWN[0]])
+
+
+def test_reads_beside_another_client():
+    """Its lock is refused, it stops; it locks a node that failed, one that was unlocked, or all."""
+    equal(reads(f"{PICKED}, L 1, R 1, C 1, R 1, S 1 2 02, R 2"), [SPARE_SHOWN[0], *SPARE_SHOWN])
+    taken = f"{PICKED}, N 1 77, L 1"
+    equal(reads(f"{taken}, R 1, R 2, L 1, R 1, R 2"), ["4 INIT,L1", "4 NORM,L1", "4 INIT,UNL", "4 NORM,L1"])
+    equal(reads(f"{SETTLED}, U 2, L 1, R 1, R 2"), ["4 NORM,L1"] * 2)
+    equal(reads(f"{SETTLED}, U 2 x4, L 1 x4, R 1, P 1, R 1"), ["4 NORM,L1", SPARE_SHOWN[0]])
+    failures = "N 1 77, N 2 77, N 3 77, N 4 77"
+    equal(reads(f"{PICKED}, {failures}, L 1 x4, R 1, R 2"), ["4 INIT,L1"] * 2)
+
+
+def test_reads_after_a_stop():
+    """All that was held is EXP; another client then picks what was begun."""
+    equal(reads(f"{PICKED}, W 2, C 2, R 1, R 2"), ["4 RECONS,EXP", "4 NORM,EXP"])
+    equal(reads(f"{PICKED}, W 2, C 2, L 1 x4, R 1, P 1, R 1, R 2"), ["4 RECONS,L1", *SPARE_SHOWN])
+    equal(reads(f"{SETTLED}, C 2, R 1, R 2"), ["4 NORM,EXP"] * 2)
+
+
+def test_reads_of_other_numbers():
+    for calls in ["K", "L 2 x4", PICKED, SETTLED]:
+        equal(reads(f"{calls}, R 0, R 3, R 4, R 5"), ["2 -"] * 4)
+
+
+def test_reads_of_other_bytes():
+    """A swap without an add is lost: the spare has 00 from the pick on, the live table from the write on."""
+    lost = "S 1 1 01, R 1, L 2 x4, P 2, R 1, W 2 x4, R 1, T 2 x4, R 1, U 2, R 1"
+    equal(reads(lost), [LIVE_SHOWN[0], *["0 block=00 spare"] * 3, "0 block=00 live"])
+    shown = reads("S 1 2 0102, A 1 4, A 1 5, L 1 x5, P 1, R 1, R 2, R 3", "3 5 2 1 1")
+    equal(shown, ["0 block=0000 spare", "0 block=0102 spare", "0 block=0000 spare"])
+
+
+def test_reads_at_L0():
+    """Past a pick no list has a node at L0; of such records no block is shown."""
+    must(mutants.refuses_at_L0(machine), "a block is shown where a node is held at L0")
+
+
+def note_pick(picked, call, answer, n):
+    """Keeps, of each client whose pick was accepted in the rebuild it now has, how many unlocks were accepted since."""
+    c = call.arguments[0] if call.arguments else None
+    if answer.number in (9, 10) or answer.accepted and call.name in ("quit", "stop"):
+        picked.pop(c, None)
+    elif answer.accepted and call.name == "pick":
+        picked[c] = 0
+    elif answer.accepted and call.name == "unlock":
+        picked[c] += 1
+        if picked[c] == n:
+            del picked[c]
+
+
+def read_answer(stripe, i, picked):
+    """Document 02's sentence, by the clients that have picked."""
+    k, _, B, _, _ = stripe.sizes
+    if not 1 <= i <= k:
+        return Answer(2)
+    node, part = stripe.nodes[i], slice((i - 1) * B, i * B)
+    if (node.opmode, node.lmode) == (NORM, UNL):
+        return Answer(0, Shown(stripe.blocks[part], "live"))
+    locks = {(node.lmode, node.holder) for node in stripe.nodes.values()}
+    if any(locks == {(L1, c)} for c in picked):
+        return Answer(0, Shown(stripe.spare[part], "spare"))
+    return Answer(4, (node.opmode, node.lmode))
+
+
+def test_reads_along_lists():
+    """Who has picked is read off the calls and their answers, and not off the client records."""
+    seen = Counter()
+    for seed in range(20):
+        first, *lines = b"\n".join(lists.stripe_script(seed, 1500)).split(b"\n")
+        stripe = new_stripe(striperun.read_sizes(first))
+        picked = {}
+        for call in filter(None, map(read_call, lines)):
+            answer = answer_of(stripe, call)
+            if call.name == "read":
+                equal(answer, read_answer(stripe, *call.arguments, picked))
+                seen[answer.value.table if answer.accepted else answer.number] += 1
+            note_pick(picked, call, answer, stripe.sizes.n)
+    for what in ["live", "spare", 2, 4]:
+        must(seen[what] > 100, f"reads: {what} only {seen[what]} times")
+
+
 # ------------------------------------- answers that short lists don't reach
 
 
@@ -308,11 +445,19 @@ def test_programs():
         equal(got, (EXAMPLES / f"{name}.out").read_text())
 
 
+def test_reads_of_shelfrun():
+    """The spare's byte where it printed 4; a swap without an add is lost."""
+    calls = "S 1 1 01, R 1, L 2 x4, R 1, P 2, R 1, R 2, R 3, N 4 00, R 1"
+    shown = ["1 swapped 0 -", "2 - 0 01", *(f"{at} locked 0 -" for at in (3, 4, 5, 6)), "7 - 4 -", "8 - 0 -"]
+    shown += ["9 - 0 00", "10 - 0 00", "11 - 2 -", "12 - 0 -", "13 - 4 -"]
+    equal(list(shelfrun.run(spelled_out(calls))), shown)
+
+
 def test_sizes_refused():
     for first in [b"1 2 1 0 1", b"2 4 1 1", b"2 4 1 1 2 ", b"", b"2 4 1 -1 2", b"2 4 1 1 2\r"]:
         equal(list(striperun.run([first, b"R 1", b"", b"?"])), ["1 -"] * 3)
     equal(list(striperun.run([])), [])
-    equal(list(striperun.run([b"02 4 001 1 2", b"R 1"]))[0].split(" | ")[0], "0 block=00")
+    equal(list(striperun.run([b"02 4 001 1 2", b"R 1"]))[0].split(" | ")[0], "0 block=00 live")
 
 
 UNREADABLE = [
@@ -409,8 +554,13 @@ def test_sets_along_lists():
 
 
 def test_guarantee():
-    rebuilds = sum(guarantee.replay(lists.stripe_script(seed, 1000)).rebuilds for seed in range(20))
+    """Along lists that have every kind of read."""
+    histories = [guarantee.replay(lists.stripe_script(seed, 1000)) for seed in range(20)]
+    rebuilds = sum(history.rebuilds for history in histories)
     must(rebuilds > 100, f"only {rebuilds} rebuilds finished")
+    seen = sum((history.reads for history in histories), Counter())
+    for kind in guarantee.READS:
+        must(seen[kind] > 10, f"{kind} occurs {seen[kind]} times")
 
 
 def test_answers_occur():
@@ -821,6 +971,13 @@ def test_ticks_of_one_stripe():
     equal([*takenout.run(spelled_out(calls))][-4:], ["0 -", "0 no", "0 due", "0 no"])
 
 
+def test_reads_of_volumes():
+    """Of stripe 1, whose rebuild has picked, from the spare, by its number or by a block's."""
+    calls = "2 2 4 1 1 2, SB 1 2 01, 1 A 1 3, 1 L 2 x4, RB 2, 1 P 2, RB 2, 1 R 1, RB 3, RB 0, 0 R 1, 1 R 3, RB 4"
+    shown = ["4 NORM,L1", "0 set=1.2.3 E=0", SPARE_SHOWN[0], *SPARE_SHOWN, LIVE_SHOWN[1], LIVE_SHOWN[1], "2 -", "2 -"]
+    equal([*takenout.run(spelled_out(calls))][-9:], shown)
+
+
 def test_lost_cards():
     """Whatever card is lost, every block is read back after the rebuilds."""
     rng = random.Random(1)
@@ -832,13 +989,17 @@ def test_lost_cards():
 
 
 def check_read_back(lines, output):
+    """Each read shows the last value written: after the rebuilds that of the live table, before that either or 4."""
     values = {}
-    for line, shown in zip(lines, output, strict=True):
+    rebuilt = max(at for at, line in enumerate(lines) if b" U " in line)
+    for at, (line, shown) in enumerate(zip(lines, output, strict=True)):
         call = read_volume_call(line)
         if call.name == "swap":
             values[call.arguments[1]] = call.arguments[2]
-        if call.name == "read":
-            equal(shown, f"0 block={values[call.arguments[0]].hex().upper()}")
+        if call.name == "read" and not (at < rebuilt and shown.startswith("4 ")):
+            tables = ["live", "spare"] if at < rebuilt else ["live"]
+            block = values[call.arguments[0]].hex().upper()
+            must(shown in [f"0 block={block} {table}" for table in tables], f"{line} prints {shown}")
 
 
 def test_stripes_taken_out():
@@ -850,7 +1011,10 @@ def test_stripes_taken_out():
             seen[shown] += 1
             seen[line[:2]] += shown == "0 -"
             seen[line[-2:]] += shown == "0 -"
-    for what, floor in [("0 rebuilt", 100), (b"CC", 40), (b"NC", 40), (b" K", 500)]:
+            if shown.startswith("0 block="):
+                seen["RB" if line.startswith(b"RB") else "R", shown.split(" ")[2]] += 1
+    shown_blocks = [((by, table), 100) for by, table in product(["R", "RB"], ["live", "spare"])]
+    for what, floor in [("0 rebuilt", 100), (b"CC", 40), (b"NC", 40), (b" K", 500), *shown_blocks]:
         must(seen[what] > floor, f"{what} occurs {seen[what]} times")
 
 

@@ -21,7 +21,7 @@ def event_of(call, answer):
 
 def byte_read(call, answer):
     if answer.accepted and call.name == "read":
-        return answer.value.hex().upper()
+        return answer.value.block.hex().upper()
     return "-"
 
 

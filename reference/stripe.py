@@ -1,10 +1,11 @@
 """The machine of document 01: one stripe, its writers and its rebuild.
 
-Ages are counted in ticks, by request C-12 of document 02. A Stripe has the
-node records, the client records and three tables: blocks, spare and
-differences. Each call is one method; it gives an Answer and leaves the records
-and tables as document 01 says. The tests of a call stand in the order of their
-numbers, so that the lowest applicable number wins.
+Ages are counted in ticks, by request C-12 of document 02, and a read may show
+a block of the spare, by request C-15. A Stripe has the node records, the client
+records and three tables: blocks, spare and differences. Each call is one
+method; it gives an Answer and leaves the records and tables as document 01
+says. The tests of a call stand in the order of their numbers, so that the
+lowest applicable number wins.
 """
 
 import dataclasses
@@ -13,7 +14,7 @@ from typing import NamedTuple, Optional
 
 import code
 import field
-from answers import ACCEPTED, Answer
+from answers import ACCEPTED, LIVE, SPARE, Answer, Shown
 from code import block, coefficient, put_block
 
 # opmode
@@ -74,7 +75,7 @@ class Node:
     DUE_AGE = 64
 
     def is_free(self):
-        """What read, swap and sweep need."""
+        """What swap, sweep and a read of the live table need."""
         return self.opmode == NORM and self.lmode == UNL
 
     def takes_adds(self):
@@ -169,6 +170,10 @@ class Client:
     def in_phase(self, phase):
         return self.rebuild is not None and self.rebuild.phase == phase
 
+    def has_picked(self):
+        """A pick was accepted in the rebuild that it now has."""
+        return self.rebuild is not None and self.rebuild.phase in (WRITING, SETTLING, UNLOCKING)
+
 
 # ----------------------------------------------------------------- stripe
 
@@ -230,13 +235,19 @@ class Stripe:
     # ------------------------------------------------------------ writing
 
     def read(self, i):
-        """Shows block i."""
+        """Shows block i of the live table; if the node isn't free, perhaps that of the spare."""
         if not self.is_position(i):
             return Answer(2)
         node = self.nodes[i]
-        if not node.is_free():
-            return modes_not_met(node)
-        return Answer(0, self.block(i))
+        if node.is_free():
+            return Answer(0, Shown(self.block(i), LIVE))
+        if self.lets_read_spare(node.holder):
+            return Answer(0, Shown(block(self.spare, i, self.sizes.B), SPARE))
+        return modes_not_met(node)
+
+    def lets_read_spare(self, c):
+        """The holder c, if any, has picked and holds all n nodes at L1."""
+        return c is not None and self.clients[c].has_picked() and self.holds_all_at_L1(c)
 
     def swap(self, c, i, value):
         """Difference = value XOR old block; previous id = last recent id there."""

@@ -87,7 +87,7 @@ def show_returned(call, answer):
     if answer.number == 6:
         return show_id(answer.value)
     if answer.accepted and call.name == "read":
-        return f"block={show_bytes(answer.value)}"
+        return f"block={show_bytes(answer.value.block)} {answer.value.table}"
     if answer.accepted and call.name == "pick":
         chosen, E = answer.value
         return f"set={show_set(chosen)} E={E}"

@@ -8,8 +8,8 @@ of its nodes among them. After each call
   - the answer is the one that the stripes alone gave,
   - the volume's stripes are in the same states as those alone, so that the
     call changed nothing of the others,
-  - demand 3 holds of each stripe's calls, and a tick changes ages only
-    (guarantee.py).
+  - demand 3 holds of each stripe's calls, its reads show what C-15 promises,
+    and a tick changes ages only (guarantee.py).
 
 A call that names a stripe, block or card that is not there, or gives a card's
 failure bytes of another length, is in no stripe's list.
@@ -105,10 +105,10 @@ def refusal(sizes, call):
 class Witness:
     """Makes each call of a fresh volume and checks it. Raises Apart or guarantee.Broken."""
 
-    def __init__(self, volume):
+    def __init__(self, volume, reads):
         self.volume = volume
         self.alone = [new_stripe(volume.sizes.stripe) for _ in volume.stripes]
-        self.histories = [guarantee.begun(stripe) for stripe in self.alone]
+        self.histories = [guarantee.begun(stripe, reads) for stripe in self.alone]
         self.turn = cycle(range(len(self.alone)))
 
     def answer(self, call):
@@ -136,14 +136,14 @@ class Witness:
         return Answer(0, *shown) if shown else Answer(2)
 
 
-def run(lines, Volume=Volume):
-    """volumerun's output for the lines; each call is checked."""
-    return volumerun.run(lines, Volume, Witness)
+def run(lines, Volume=Volume, reads=None):
+    """volumerun's output for the lines; each call is checked. Reads: counts the kinds of reads."""
+    return volumerun.run(lines, Volume, lambda volume: Witness(volume, reads))
 
 
 def main():
     rebuilds = sum(line == "0 rebuilt" for line in run(lines_of(sys.stdin.buffer)))
-    print(f"{rebuilds} rebuilds finished, each stripe's calls give the same alone, demand 3 holds")
+    print(f"{rebuilds} rebuilds finished, each stripe's calls give the same alone, {guarantee.HOLDS}")
 
 
 if __name__ == "__main__":

@@ -14,7 +14,7 @@ import random
 import sys
 from itertools import chain, zip_longest
 
-from lists import Author, damage, random_sizes, text, with_images
+from lists import Author, damage, random_sizes, text, whole_list
 from script import VOLUME_FORMS, read_call, read_volume_call
 from striperun import IMAGE_LINE
 from takenout import taken_out
@@ -72,6 +72,17 @@ class VolumeAuthor:
 
     def image_line(self, rng):
         return rng.choice([IMAGE_LINE, on_stripe(rng.randrange(self.volume.sizes.stripes), IMAGE_LINE)])
+
+    def read_share(self):
+        return self.authors[self.at].read_share()
+
+    def read_line(self, rng):
+        """A read of the stripe whose author writes, in half of all cases by the block's number."""
+        line = self.authors[self.at].read_line(rng)
+        (i,) = read_call(line).arguments
+        if self.volume.stripes[self.at].is_position(i) and rng.random() < 0.5:
+            return volume_text("read", block_at(self.volume.sizes, self.at, i))
+        return on_stripe(self.at, line)
 
     def endangers(self, line):
         calls = taken_out(self.volume.sizes, read_volume_call(line))
@@ -175,6 +186,15 @@ def in_turn(lists):
     return [line for lines in zip_longest(*lists) for line in lines if line is not None]
 
 
+def with_reads_between(rng, sizes, lines):
+    """Lines of calls on stripes; after some of them a block of the same stripe is read."""
+    for line in lines:
+        yield line
+        if rng.random() < 0.3:
+            s = int(line.split(b" ")[0])
+            yield volume_text("read", block_at(sizes, s, rng.randint(1, sizes.stripe.k)))
+
+
 def read_all(sizes, s):
     yield from (volume_text("read", block_at(sizes, s, i)) for i in range(1, sizes.stripe.k + 1))
     yield volume_text("look", s)
@@ -184,7 +204,7 @@ def lost_card(rng, sizes, stripes, card):
     """The stripes named are written, the card fails, and they are rebuilt side by side.
 
     The clients take the stripes in turn. All stop on the way, and others begin
-    again. At last all blocks are read.
+    again. On the way some blocks are read, and at last all.
     """
     clients = range(1, sizes.stripe.m + 1)
     begun = [rebuild(sizes, s, s % len(clients) + 1) for s in stripes]
@@ -192,9 +212,9 @@ def lost_card(rng, sizes, stripes, card):
     return [
         *chain.from_iterable(write_all(rng, sizes, s) for s in stripes),
         volume_text("fail", card, rng.randbytes(sizes.stripes * sizes.stripe.B)),
-        *in_turn(lines[: rng.randrange(len(lines))] for lines in begun),
+        *with_reads_between(rng, sizes, in_turn(lines[: rng.randrange(len(lines))] for lines in begun)),
         *(volume_text("stop", c) for c in clients),
-        *in_turn(again),
+        *with_reads_between(rng, sizes, in_turn(again)),
         *chain.from_iterable(read_all(sizes, s) for s in stripes),
     ]
 
@@ -216,7 +236,7 @@ def volume_script(seed, calls, sizes=None):
     sizes = sizes or random_volume_sizes(rng)
     yield first_line(sizes)
     author = VolumeAuthor(new_volume(sizes), rng)
-    yield from with_images(author, author.lines(calls), seed)
+    yield from whole_list(author, calls, seed)
 
 
 def main():

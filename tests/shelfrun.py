@@ -1,13 +1,16 @@
 """Compares the program shelfrun with the second implementation, byte by byte.
 
     shelfrun.py PROGRAM SEED
+    shelfrun.py --reference-only SEED       without a program
 
-Plays inputs that are odd as a whole, and random lists, a tenth of their lines
-damaged as a person, a cable or an attacker would; all with little memory, for
-lines and input may have any length. Prints how many lines were unreadable, how
-often each answer was given and each event printed; stops at the first
-difference with an error exit, or if the lists have too few lines M, which only
-striperun knows.
+Plays inputs that are odd as a whole, and random lists, about a tenth of their
+lines damaged as a person, a cable or an attacker would; all with little memory,
+for lines and input may have any length. On the way the second implementation
+checks demand 3 and what C-15 promises of reads (reference/guarantee.py). Prints
+how many lines were unreadable, how often each answer was given, each event
+printed and which kinds of reads there were; stops at the first difference with
+an error exit, or if the lists have too few lines M, which only striperun knows,
+or too few of some kind of read.
 """
 
 import itertools
@@ -17,10 +20,11 @@ import sys
 import time
 from collections import Counter
 
-from against import compared, in_order, pool
-from lists import shelf_author, with_images
+from against import compared, in_order, pool, reference_output
+import guarantee
+from lists import shelf_author, whole_list
 from script import SHELF_FORMS, read_call
-from shelfrun import run
+from shelfrun import SIZES, run
 from striperun import IMAGE_LINE
 
 PROGRAM, SEED = sys.argv[1], int(sys.argv[2])
@@ -31,6 +35,7 @@ COMMAND = ["bash", "-c", 'ulimit -v 8192 && exec "$0"', PROGRAM]
 LISTS = 8
 LINES = 20_000
 IMAGE_LINES = 1000  # unreadable, in all lists together
+READS = 20  # of each kind, in all lists together
 
 EVENTS = ["swapped", "added", "locked", "rebuilt"]
 
@@ -152,10 +157,22 @@ def inputs():
         yield b"\n".join([*SCRIPT, line, *SCRIPT])
 
 
+def output_of(input):
+    if PROGRAM == "--reference-only":
+        return reference_output(run, input).splitlines()
+    return compared(COMMAND, run, input)
+
+
+def reads(lines):
+    """The kinds of reads, as of a script of striperun."""
+    return guarantee.replay([" ".join(map(str, SIZES)).encode(), *lines], forms=SHELF_FORMS).reads
+
+
 def counts(input):
-    """Of lines, of those that are unreadable, of each event and of each answer."""
-    seen = Counter()
-    for line, output in zip(input.split(b"\n"), compared(COMMAND, run, input)):
+    """Of lines, of those that are unreadable, of each event, of each answer and of each kind of read."""
+    lines = input.split(b"\n")
+    seen = Counter(reads(lines))
+    for line, output in zip(lines, output_of(input)):
         _, event, number, _ = output.split(b" ")
         seen["lines"] += 1
         seen["unreadable"] += read_call(line, SHELF_FORMS) is None
@@ -168,7 +185,7 @@ def counts(input):
 def random_list(seed):
     """Every other one has no end of its last line."""
     author = shelf_author(random.Random(seed))
-    lines = with_images(author, author.lines(LINES), seed)
+    lines = whole_list(author, LINES, seed)
     return counts(b"\n".join(lines) + b"\n" * (seed % 2))
 
 
@@ -192,7 +209,8 @@ def show(name, seen):
 
 
 def main():
-    dribble()
+    if PROGRAM != "--reference-only":
+        dribble()
     whole = sum((counts(input) for input in inputs()), Counter())
     show("odd inputs", whole)
     with pool() as workers:
@@ -202,8 +220,10 @@ def main():
     print("answers:", in_order(whole, range(13)))
     print("events:", in_order(whole, EVENTS))
     print("unreadable M:", whole["M"])
-    if seen["M"] < IMAGE_LINES:
-        sys.exit(f"shelfrun: M unreadable only {seen['M']} times, not {IMAGE_LINES}")
+    print("reads:", in_order(whole, guarantee.READS))
+    for what, floor in [("M", IMAGE_LINES), *((kind, READS) for kind in guarantee.READS)]:
+        if seen[what] < floor:
+            sys.exit(f"shelfrun: {what} only {seen[what]} times, not {floor}")
 
 
 if __name__ == "__main__":

@@ -5,10 +5,12 @@
 
 Plays random lists of calls for each of the sizes below, lists with many
 damaged lines, inputs that are odd as a whole, lists in which nodes come due
-by ticks, and lists with images of every kind of state. Prints how many calls
+by ticks, lists with images of every kind of state, and lists with reads after
+each call of a rebuild. On the way the second implementation checks demand 3
+and what C-15 promises of reads (reference/guarantee.py). Prints how many calls
 of each kind were accepted, how often each answer was given, how many rebuilds
-were finished and what the images show; stops at the first difference with an
-error exit, or if the images show too little.
+were finished, what the images show and which kinds of reads there were; stops
+at the first difference with an error exit, or if too little of these occurs.
 """
 
 import itertools
@@ -18,12 +20,13 @@ from collections import Counter
 
 from against import compared, in_order, pool, reference_output
 from firstlines import BAD_SIZES, GOOD_SIZES
+import guarantee
 import image
 import kinds
-from lists import Author, stripe_author, with_images
+from lists import Author, stripe_author, whole_list
 from script import FORMS, spelled_out
 from stripe import Sizes
-from striperun import IMAGE_LINE, new_stripe, run
+from striperun import IMAGE_LINE, new_stripe, read_sizes, run
 
 PROGRAM, SEED = sys.argv[1], int(sys.argv[2])
 
@@ -37,8 +40,9 @@ SCRIPT = b"S 1 1 0102\nA 1 3\nL 2\nR 1\nK\nZ 1\nM\nQ 2\nbogus\nM 1\nM"
 
 # Each is refused somewhere.
 DAMAGED_IMAGE_LINES = [b"M 1", b"MM", b"m", b" M", b"M "]
-# How often the images show each kind of state, in the lists written out below and in the random ones.
+# How often the images show each kind of state, and each kind of read occurs, in the lists written out below and in the random ones.
 FLOORS = {"images": 1, "lists": 10}
+READ_FLOORS = {"reads": 1, "lists": 20}
 
 MEGABYTE = 2**20
 ODD_INPUTS = [
@@ -116,6 +120,44 @@ IMAGES = [
     "L 2 x4, P 2, M, W 2 x4, T 2 x2, M, Q 2, M",
 ]
 
+# Lists of calls on the same stripe; after each call both positions are read, and two numbers that are none.
+REBUILD_BY_1 = REBUILD.replace(" 2", " 1")
+BEGUN = {
+    "locks": "L 2 x4",
+    "pick": "L 2 x4, P 2",
+    "writes": "L 2 x4, P 2, W 2 x2",
+    "settles": "L 2 x4, P 2, W 2 x4, T 2 x2",
+    "nth settle": "L 2 x4, P 2, W 2 x4, T 2 x4",
+    "unlock": "L 2 x4, P 2, W 2 x4, T 2 x4, U 2",
+    "last unlock but one": "L 2 x4, P 2, W 2 x4, T 2 x4, U 2 x3",
+}
+READS = [
+    # Whole rebuilds: of nothing, of writes done, of one that is kept and of one that is lost.
+    f"{REBUILD}, {DONE}, {LATER}, {REBUILD}",
+    f"{FRIDAY}, {REBUILD}, {LATER}, {REBUILD_BY_1}",
+    f"{DONE}, S 2 1 22, {REBUILD}, S 1 2 33, A 1 4, {REBUILD}",
+    # Weakened, with an add in between; a pick refused by 11, and then with a failure.
+    "S 1 1 11, A 1 3, L 2 x4, O 2, A 1 4, I 2 x2, P 2, W 2 x4, T 2 x4, U 2 x4",
+    f"S 1 1 11, A 1 3, S 2 2 22, A 2 4, L 2 x4, P 2, Q 2, N 4 99, {REBUILD}",
+    # INIT nodes that are held.
+    *[f"{FRIDAY}, N {j} 99, {REBUILD}" for j in (1, 2, 3, 4)],
+    f"{DONE}, N 1 99, N 3 98, {REBUILD}",
+    # In each phase: the client stops, quits, loses a node and goes on, or loses it to another client; another stops.
+    *[f"{FRIDAY}, {begun}, C 2, {REBUILD_BY_1}" for begun in BEGUN.values()],
+    *[f"{DONE}, {begun}, Q 2, {REBUILD}" for begun in BEGUN.values()],
+    *[f"{FRIDAY}, {begun}, N {j} 99, P 2, W 2, T 2, U 2" for begun in BEGUN.values() for j in (1, 4)],
+    *[f"{DONE}, {begun}, N 1 99, L 1 x2, W 2 x2, T 2, U 2" for begun in BEGUN.values()],
+    *[f"S 1 1 11, A 1 3, {begun}, L 1, A 1 4, D 1, S 1 2 22, C 1" for begun in BEGUN.values()],
+    # All nodes are lost to another client, at once or the last of them before its unlock.
+    f"{DONE}, {BEGUN['writes']}, N 1 99, N 2 98, N 3 97, N 4 96, L 1 x4, P 1, W 2",
+    f"{DONE}, {BEGUN['last unlock but one']}, N 4 99, L 1 x4, P 1, W 1 x4, U 2, T 1 x4, U 1 x4",
+]
+
+
+def with_reads(calls):
+    for line in spelled_out(calls):
+        yield from [line, b"R 1", b"R 2", b"R 3", b"R 0"]
+
 
 def random_lists():
     """One list for each of the sizes, the clients in turn 1 to 8."""
@@ -131,19 +173,20 @@ def script_of(sizes, lines):
 
 def random_script(seed, sizes):
     author = stripe_author(random.Random(seed), sizes)
-    return script_of(sizes, with_images(author, author.lines(CALLS), seed))
+    return script_of(sizes, whole_list(author, CALLS, seed))
 
 
 def damaged_script(seed, sizes):
     author = Author(new_stripe(sizes), random.Random(seed), damaged=0.5, arbitrary=0.3)
-    return script_of(sizes, with_images(author, author.lines(DAMAGED_CALLS), seed, damaged=0.5))
+    return script_of(sizes, whole_list(author, DAMAGED_CALLS, seed, damaged=0.5))
 
 
 def long_blocks_script(seed, sizes):
-    """A write, and a rebuild up to its writes; few lines, for each shows all the tables."""
+    """A write, and a rebuild up to its writes, with reads; few lines, for each shows all the tables."""
     author = stripe_author(random.Random(seed), sizes)
     done, rebuild = author.done_write(1, sizes.k), author.locks_and_pick(sizes.m)
-    return script_of(sizes, [*done, IMAGE_LINE, *rebuild, IMAGE_LINE, b"W %d" % sizes.m, IMAGE_LINE])
+    asked = [b"R 1", b"R %d" % sizes.k, IMAGE_LINE]
+    return script_of(sizes, [*done, *asked, *rebuild, *asked, b"W %d" % sizes.m, *asked])
 
 
 def output_of(script):
@@ -158,9 +201,10 @@ def kinds_shown(returned):
 
 
 def counts(script):
-    """Of each call how often it was accepted, of each answer, of finished rebuilds, of images and what they show."""
-    seen = Counter()
-    for line, output in zip(script.split(b"\n")[1:], output_of(script)):
+    """Of each call how often it was accepted, of each answer, of finished rebuilds, of images and what they show, of reads."""
+    first, *lines = script.split(b"\n")
+    seen = Counter(guarantee.replay([first, *lines]).reads if read_sizes(first) else {})
+    for line, output in zip(lines, output_of(script)):
         number, returned = output.split(b" ")[:2]
         seen["calls"] += 1
         seen["rebuilds"] += returned == b"rebuilt"
@@ -181,13 +225,19 @@ def play(job):
 
 
 def show(name, seen):
-    print(f"striperun, {name}: {seen['calls']} calls the same, {seen['rebuilds']} rebuilds finished, {seen['image']} images")
+    happened = f"{seen['rebuilds']} rebuilds finished, {seen['read']} reads accepted, {seen['image']} images"
+    print(f"striperun, {name}: {seen['calls']} calls the same, {happened}")
 
 
 def check_shown(seen, needed, floor):
     for what in needed:
         if seen[what] < floor:
             sys.exit(f"striperun: {what} only {seen[what]} times, not {floor}")
+
+
+def check_reads(by_name):
+    for name, floor in READ_FLOORS.items():
+        check_shown(by_name[name], guarantee.READS, floor)
 
 
 def check_images(by_name, whole):
@@ -200,8 +250,8 @@ def check_images(by_name, whole):
 def main():
     odd = [first + b"\n" + SCRIPT for first in GOOD_SIZES + BAD_SIZES] + ODD_INPUTS
     written_out = {
-        name: [script_of(Sizes(2, 4, 1, 1, 2), spelled_out(calls)) for calls in lists]
-        for name, lists in [("ticks", TICKS), ("images", IMAGES)]
+        name: [script_of(Sizes(2, 4, 1, 1, 2), lines_of(calls)) for calls in lists]
+        for name, lists, lines_of in [("ticks", TICKS, spelled_out), ("images", IMAGES, spelled_out), ("reads", READS, with_reads)]
     }
     by_name = {}
     for name, scripts in {"odd inputs": odd, **written_out}.items():
@@ -220,7 +270,9 @@ def main():
     print("answers:", in_order(whole, range(13)))
     print("accepted:", in_order(whole, [*[name for name, _, _ in FORMS.values()], "image"]))
     print("images show:", in_order(whole, kinds.KINDS))
+    print("reads:", in_order(whole, guarantee.READS))
     check_images(by_name, whole)
+    check_reads(by_name)
 
 
 if __name__ == "__main__":

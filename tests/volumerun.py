@@ -7,10 +7,10 @@ On the way the second implementation makes each stripe's calls once more on a
 stripe of its own (reference/takenout.py). Plays inputs that are odd as a
 whole, numbers and lengths at their bounds, ticks of one stripe, volumes as
 large as the program has memory for and larger ones, volumes that lose a card,
-random lists, and lists with many damaged lines. Prints how many calls of each
-kind were accepted, how often each answer was given and how many rebuilds were
-finished; stops at the first difference with an error exit, or if too little
-happened.
+such as lose it while a rebuild ends, random lists, and lists with many damaged
+lines. Prints how many calls of each kind were accepted, how often each answer
+was given, how many rebuilds were finished and which kinds of reads there were;
+stops at the first difference with an error exit, or if too little happened.
 """
 
 import itertools
@@ -18,15 +18,17 @@ import random
 import re
 import sys
 from collections import Counter
+from functools import partial
 
 from against import compared, in_order, pool, reference_output
 from firstlines import BAD_SIZES, GOOD_SIZES
-from lists import text, with_images
+import guarantee
+from lists import text, whole_list
 from script import FORMS, VOLUME_FORMS, read_volume_call
 from stripe import Sizes
 from takenout import run
-from volume import VolumeSizes
-from volumelists import VolumeAuthor, block_at, first_line, lost_card, on_stripe, volume_text
+from volume import VolumeSizes, card_of
+from volumelists import VolumeAuthor, block_at, first_line, lost_card, on_stripe, rebuild, volume_text, write_all
 from volumerun import new_volume, read_sizes
 
 PROGRAM, SEED = sys.argv[1], int(sys.argv[2])
@@ -38,6 +40,9 @@ DAMAGED_CALLS = 500
 KINDS = [letter.decode() for letter in VOLUME_FORMS] + [name for name, _, _ in FORMS.values()]
 # What has to happen, in all lists together. Several: lists in which several clients finish rebuilds of several stripes.
 FLOORS = {"calls": 100_000, "rebuilds": 1000, "several": 50, "NC": 500, "CC": 800, "tick": 25_000, "M": 1000, "s M": 1000}
+# Reads by a block's number and after a stripe's, of either table; and each kind of read.
+FLOORS |= {"RB live": 1000, "RB spare": 1000, "s R live": 1000, "s R spare": 1000}
+READS = 50
 # Lines for an image, unreadable with a stripe's number and without.
 IMAGE_LINES = {"M": re.compile(rb"M"), "s M": re.compile(rb"[0-9]+ M")}
 
@@ -211,14 +216,25 @@ def lost_card_script(seed, sizes):
     return script_of(sizes, lost_card(rng, sizes, stripes, rng.randint(1, n)))
 
 
+def taken_script(seed, sizes):
+    """A card fails when a stripe's rebuild lacks only the unlock there; another client rebuilds. Blocks are read after each call."""
+    rng = random.Random(seed)
+    stripes, (k, n, B, _, m) = sizes
+    s = rng.randrange(stripes)
+    reads = [*(volume_text("read", block_at(sizes, s, i)) for i in (1, k)), on_stripe(s, text("read", 1))]
+    failure = volume_text("fail", card_of(n, s, n), rng.randbytes(stripes * B))
+    calls = [*rebuild(sizes, s, 1)[:-1], failure, *rebuild(sizes, s, m)]
+    return script_of(sizes, [*write_all(rng, sizes, s), *(line for call in calls for line in (call, *reads))])
+
+
 def random_script(seed, sizes):
     author = VolumeAuthor(new_volume(sizes), random.Random(seed))
-    return script_of(sizes, with_images(author, author.lines(CALLS), seed))
+    return script_of(sizes, whole_list(author, CALLS, seed))
 
 
 def damaged_script(seed, sizes):
     author = VolumeAuthor(new_volume(sizes), random.Random(seed), damaged=0.5, arbitrary=0.3)
-    return script_of(sizes, with_images(author, author.lines(DAMAGED_CALLS), seed, damaged=0.5))
+    return script_of(sizes, whole_list(author, DAMAGED_CALLS, seed, damaged=0.5))
 
 
 def all_sizes():
@@ -234,10 +250,11 @@ def all_sizes():
 # --------------------------------------------------------------- comparing
 
 
-def output_of(script):
+def output_of(script, reads):
+    checked = partial(run, reads=reads)
     if PROGRAM == "--reference-only":
-        return reference_output(run, script).splitlines()
-    return compared([PROGRAM], run, script)
+        return reference_output(checked, script).splitlines()
+    return compared([PROGRAM], checked, script)
 
 
 def kind_of(line):
@@ -246,15 +263,17 @@ def kind_of(line):
 
 
 def counts(script):
-    """Of each call how often it was accepted, of each answer, of finished rebuilds, and of lines for an image."""
+    """Of each call how often it was accepted, of each answer, of finished rebuilds, of reads, and of lines for an image."""
     seen = Counter()
     stripes, clients = set(), set()
-    for line, output in zip(script.split(b"\n")[1:], output_of(script)):
+    for line, output in zip(script.split(b"\n")[1:], output_of(script, seen)):
         seen["calls"] += 1
-        number, returned = output.split(b" ")[:2]
+        number, returned, *more = output.split(b" ")
         seen[number.decode()] += 1
         if number == b"0":
             seen[kind_of(line)] += 1
+        if returned.startswith(b"block="):
+            seen[f"{'RB' if line.startswith(b'RB') else 's R'} {more[0].decode()}"] += 1
         for what, form in IMAGE_LINES.items():
             seen[what] += number == b"1" and form.fullmatch(line) is not None
         if returned == b"rebuilt":
@@ -282,6 +301,7 @@ def jobs():
         "bounds": (bounds_script, [*large, *all_sizes()]),
         "ticks": (ticks_script, [*large, *all_sizes()]),
         "lost cards": (lost_card_script, [*large, *all_sizes()]),
+        "taken nodes": (taken_script, [*large, *all_sizes()]),
         "damaged lists": (damaged_script, all_sizes()),
         "lists": (random_script, all_sizes()),
     }
@@ -299,7 +319,8 @@ def main():
     print("answers:", in_order(whole, map(str, range(13))))
     print("accepted:", in_order(whole, KINDS))
     print("altogether:", in_order(whole, FLOORS))
-    for what, floor in FLOORS.items():
+    print("reads:", in_order(whole, guarantee.READS))
+    for what, floor in [*FLOORS.items(), *((kind, READS) for kind in guarantee.READS)]:
         if whole[what] < floor:
             sys.exit(f"volumerun: {what} only {whole[what]} times, not {floor}")
 

@@ -14,6 +14,7 @@ use records::Finding;
 use records::Phase;
 use records::Refusal;
 use records::Returned;
+use records::Source;
 use step::Clients;
 use streams::output::put;
 use streams::output::put_bytes;
@@ -33,9 +34,14 @@ fn put_picked(out: &mut [u8], mut at: usize, client: ClientRecord) -> usize {
     put_number(out, at, epoch.0 as u64)
 }
 
-fn put_block_read(out: &mut [u8], at: usize, shown: &[u8]) -> usize {
-    let next = put_text(out, at, b"block=");
-    put_bytes(out, next, shown)
+// The block that a read shows, and where it lies.
+fn put_block_read(out: &mut [u8], mut at: usize, source: Source, shown: &[u8]) -> usize {
+    at = put_text(out, at, b"block=");
+    at = put_bytes(out, at, shown);
+    match source {
+        Source::Live => put_text(out, at, b" live"),
+        Source::Spare => put_text(out, at, b" spare"),
+    }
 }
 
 // What is returned with a refusal.
@@ -95,7 +101,7 @@ fn put_returned(
 {
     match answer {
         Answer::Accepted => put_accepted(out, at, m, picker, clients),
-        Answer::Shown => put_block_read(out, at, shown),
+        Answer::Shown(source) => put_block_read(out, at, source, shown),
         Answer::Added => put_text(out, at, b"Added"),
         Answer::Done => put_text(out, at, b"Done"),
         Answer::Rebuilt => put_text(out, at, b"rebuilt"),

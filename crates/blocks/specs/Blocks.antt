@@ -1,9 +1,11 @@
 -- Document 01, "Records": "each block is a part of the block table that starts at its own offset". Blocks are numbered from 1.
 -- Assumes nothing.
+use mathlib.Core.Bool.{Bool, cond, _&&_}
 use mathlib.Core.List.{List, [], _∷_, _++_}
 use mathlib.Core.Path.{_≡_}
 use Prim.Native.Nat.{ℕ, zero, suc, _+_, _-_, _*_, _≤_, _<_}
 use lib.Bits.{bitXor}
+use lib.Dec.{leb}
 use lib.ListN.{length, getD, take, drop}
 use Rattle.basics.specs.Lists.{listOf}
 use Rattle.gf256.specs.Field.{product}
@@ -22,6 +24,13 @@ block b j t = part ((j - 1) * b) b t
 
 abbrev pub setBlock : ℕ → ℕ → List ℕ → List ℕ → List ℕ
 setBlock b j p t = setPart ((j - 1) * b) b p t
+
+-- whether a table of so many bytes has block j; the block, or nothing where the table does not have it
+abbrev pub hasBlock : ℕ → ℕ → ℕ → Bool
+hasBlock b j len = leb 1 j && leb (j * b) len
+
+abbrev pub blockIn : ℕ → ℕ → List ℕ → List ℕ
+blockIn b j t = cond (hasBlock b j (length t)) (block b j t) []
 
 -- byte p of block j, p from 0
 unfoldable pub byteAt : ℕ → List ℕ → ℕ → ℕ → ℕ

@@ -5,7 +5,7 @@ ghost use mathlib.Core.Path.{_≡_};
 ghost use Prim.Native.Nat.{_+_, _-_, _*_, _≤_};
 ghost use lib.ListN.{length, replicate};
 ghost use Rattle.blocks.specs.Blocks;
-ghost use Rattle.blocks.specs.Blocks.{setBlock, addTimes};
+ghost use Rattle.blocks.specs.Blocks.{setBlock, addTimes, hasBlock, blockIn};
 use doublings::Doublings;
 
 // Zero at each place.
@@ -60,14 +60,26 @@ pub fn add_times(dst: &mut [u8], src: &[u8], c: u8)
 
 // ---- block j of the table t, of blocks of b bytes; the other blocks are as they were
 
-// The block itself, into dst.
-pub fn read_block(dst: &mut [u8], t: &[u8], b: usize, j: usize)
-    requires { ⌜ (length (now dst) ≡ b) × (1 ≤ j) × ((j - 1) * b + b ≤ length (now t)) ⌝ }
-    ensures { λ _. ⌜ now (dst .exit) ≡ Blocks.block b j (now (t .entry)) ⌝ }
+// Whether a table of len bytes has it. The product j * b may overflow, so it is not made.
+fn has_block(len: usize, b: usize, j: usize) -> bool
+    ensures { λ r. ⌜ r ≡ hasBlock b j len ⌝ }
 {
-    let a = (j - 1) * b;
-    let e = a + b;
-    copy(dst, &t[a..e]);
+    if j == 0 {
+        return false;
+    }
+    b <= len / j
+}
+
+// The block itself, a part of the table; an empty part where the table does not have it.
+pub fn block_of<'a>(t: &'a [u8], b: usize, j: usize) -> &'a [u8]
+    ensures { λ r. ⌜ now r ≡ blockIn b j (now (t .entry)) ⌝ }
+{
+    if has_block(t.len(), b, j) {
+        let a = (j - 1) * b;
+        let e = a + b;
+        return &t[a..e];
+    }
+    &t[..0]
 }
 
 pub fn copy_block(t: &mut [u8], b: usize, j: usize, src: &[u8])

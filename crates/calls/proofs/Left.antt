@@ -34,7 +34,7 @@ none a e = let z : _≡_ {A = ℕ} 0 1 = cc in absurd (omega arith)
 
 pub refusing : (a : Answer) → isUnchanged a ≡ true → Refusing a
 refusing Accepted e = none _ e
-refusing Shown e = none _ e
+refusing (Shown source) e = none _ e
 refusing Added e = none _ e
 refusing Done e = none _ e
 refusing Rebuilt e = none _ e

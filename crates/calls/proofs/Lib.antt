@@ -1,5 +1,6 @@
 pub mod Left
 pub mod NodeAnswers
 pub mod Numbers
+pub mod Names
 pub mod Returns
 pub mod Stepping

@@ -13,7 +13,7 @@ use Rattle.calls.specs.Answers.{answerOf, Left}
 -- one answer has it
 pub answer-one : (a : Answer) (shown : List ℕ) → number (answerOf a shown) ≡ 1 → a ≡ Refused OutOfLimits
 answer-one Accepted shown e = absurd (omega arith)
-answer-one Shown shown e = absurd (omega arith)
+answer-one (Shown source) shown e = absurd (omega arith)
 answer-one Added shown e = absurd (omega arith)
 answer-one Done shown e = absurd (omega arith)
 answer-one Rebuilt shown e = absurd (omega arith)

@@ -37,7 +37,7 @@ never-zero why e z = absurd (omega (arith, from-one why))
 
 accepted-changes : (a : Answer) → number (answerOf a []) ≡ 0 → isUnchanged a ≡ false
 accepted-changes Accepted e = refl
-accepted-changes Shown e = refl
+accepted-changes (Shown source) e = refl
 accepted-changes Added e = refl
 accepted-changes Done e = refl
 accepted-changes Rebuilt e = refl

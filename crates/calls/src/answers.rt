@@ -19,7 +19,7 @@ impl Answer {
     {
         match self {
             Answer::Accepted => 0,
-            Answer::Shown => 0,
+            Answer::Shown(_) => 0,
             Answer::Added => 0,
             Answer::Done => 0,
             Answer::Rebuilt => 0,
@@ -34,7 +34,7 @@ impl Answer {
     {
         match self {
             Answer::Accepted => false,
-            Answer::Shown => false,
+            Answer::Shown(_) => false,
             Answer::Added => false,
             Answer::Done => false,
             Answer::Rebuilt => false,

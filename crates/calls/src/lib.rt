@@ -2,6 +2,7 @@
 // The types are here; their methods are in a file for each.
 mod answers; // answers.rt: the answers
 mod asked; // asked.rt: what a call is lent
+mod shown; // shown.rt: the part of a table that an answer names
 
 use records::ClientCall;
 use records::ClientRecord;
@@ -9,6 +10,8 @@ use records::Finding;
 use records::NodeCall;
 use records::NodeRecord;
 use records::Refusal;
+use records::Source;
+pub use shown::shown_part;
 
 // The calls, by what they step: a read and a pick apart, every other call steps the record of one node and that of its client, but a tick, which is of no
 // client and changes all nodes. The numbers are a client, then a position or a node; the bytes of a swap or a failure are beside the call.
@@ -27,16 +30,22 @@ pub enum StepCall {
     By(ClientCall, u8),
 }
 
-// What a call is answered. All but the last are accepted: Shown is a read's, Added and Done an add's, Rebuilt that of the settle that finishes a
-// rebuild, Told that of a call that asks.
+// What a call is answered. All but the last are accepted: Shown is a read's and tells where the block lies, Added and Done are an add's, Rebuilt is that
+// of the settle that finishes a rebuild, Told that of a call that asks.
 pub enum Answer {
     Accepted,
-    Shown,
+    Shown(Source),
     Added,
     Done,
     Rebuilt,
     Told(Finding),
     Refused(Refusal),
+}
+
+// What a read hands back with its answer: the block, a part of the live table or of the spare; an empty part where it is refused.
+pub struct Reading<'a> {
+    pub part: &'a [u8],
+    pub answer: Answer,
 }
 
 // What a call at one node hands back with its answer: the records of the node and of the client; of the client alone; of the node alone.

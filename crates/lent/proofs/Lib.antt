@@ -4,9 +4,12 @@ pub mod Entry
 pub mod Frees
 pub mod GatherEntry
 pub mod Gathering
+pub mod Giving
 pub mod Local
 pub mod Pure
 pub mod ReadEntry
 pub mod Seeing
+pub mod ShowEntry
+pub mod ShowValue
 pub mod Side
 pub mod StepEntry

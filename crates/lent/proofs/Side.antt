@@ -3,7 +3,7 @@
 --     Take, Put    the contracts of these two
 --     takes, puts  a call of each on a `&mut` table, as a step of a walk.        looks      a call of `take` on a `&` table
 --     lends        a call of `put` on a `&mut` table that is used again
---     asks, asks2, asks3       a call by value of one parameter, of two, and of three
+--     asks, asks2, asks3, asks4        a call by value of one parameter, of two, of three, and of four
 --     number       the machine value of a number that is known.        the-value      the machine value of a record, by its type
 use mathlib.Core.Path.{_≡_, refl, sym, _∙_, ap, subst}
 use Prim.Native.Nat.{ℕ}
@@ -84,7 +84,7 @@ pub record Parts (X Z Y A O : RattleType) (x : Rec X) (z : Rec Z) (y : Rec Y) (a
   pub typed : {M : Type 1} (𝓤 : URA M) (H : Heap 𝓤) (A′ : Atoms 𝓤) (W : Given 𝓤 H A′) (r : O .Denot) (w : Val) → Is O r (w ∷ [])
       → T (hasTy (tyStruct name (tcons (x .ty) (tcons (z .ty) (tcons (y .ty) (tcons (a .ty) tnil))))) w) × WT w
 
--- contracts by value, of one parameter, of two, and of three
+-- contracts by value, of one parameter, of two, of three, and of four
 module _ (Q P : RattleType) (Said : Q .Denot → P .Denot → Type 0) where
   abbrev ask-ended : Ended
   ask-ended = record {
@@ -123,6 +123,28 @@ module _ (O R Q P : RattleType) (Said : O .Denot → R .Denot → Q .Denot → P
 
   abbrev pub Ask3 : {M : Type 1} (𝓤 : URA M) (H : Heap 𝓤) (A : Atoms 𝓤) → Contract 𝓤
   Ask3 𝓤 H A = tripleOf 𝓤 H A (ask3-ended .signature) (closing 𝓤 H A ask3-ended (ask3-clauses 𝓤))
+
+module _ (N O R Q P : RattleType) (Said : N .Denot → O .Denot → R .Denot → Q .Denot → P .Denot → Type 0) where
+  abbrev ask4-ended : Ended
+  ask4-ended = record {
+    signature = record {
+      lifetimes = 0;
+      outlives = [];
+      params = plain (λ _. N) ∷ plain (λ _. O) ∷ plain (λ _. R) ∷ plain (λ _. Q) ∷ [];
+      result = plain (λ _. P);
+    };
+    kept = (yes, (yes, (yes, (yes, tt))));
+  }
+
+  abbrev ask4-clauses : {M : Type 1} (𝓤 : URA M) → Clauses 𝓤 ask4-ended
+  ask4-clauses 𝓤 κs a = record {
+    ghost = Unit {0};
+    requires = λ _. emp 𝓤;
+    ensures = λ _ r e. fact 𝓤 (Said (a .0) (a .1 .0) (a .1 .1 .0) (a .1 .1 .1 .0) r);
+  }
+
+  abbrev pub Ask4 : {M : Type 1} (𝓤 : URA M) (H : Heap 𝓤) (A : Atoms 𝓤) → Contract 𝓤
+  Ask4 𝓤 H A = tripleOf 𝓤 H A (ask4-ended .signature) (closing 𝓤 H A ask4-ended (ask4-clauses 𝓤))
 
 module _ (F : Side) where
   abbrev take-ended : Ended
@@ -226,6 +248,25 @@ module _ {M : Type 1} {𝓤 : URA M} {H : Heap 𝓤} {A : Atoms 𝓤} {K : Type 
       (λ r. exE 𝓤 _ (λ ws. snd∗ 𝓤 (sem 𝓤 H A (lasts (ask3-ended O R Q P Said) tt (x, (z, (y, tt))) ws)) (fact 𝓤 (Said x z y r))))))
       opds (λ w. use1 W (later (‵ ftrue ⊛ raw (fact 𝓤 (Got P (Said x z y) w)))) (id⊢ 𝓤 _) $ await t tt $ split t $ drop t $
       heard t (Got P (Said x z y) w) (λ p. then w p))
+
+  pub asks4 : K → (N O R Q P : RattleType) (nr : Rec N) (or : Rec O) (rr : Rec R) (qr : Rec Q)
+      (Said : N .Denot → O .Denot → R .Denot → Q .Denot → P .Denot → Type 0) → FmC 𝓤 H (W .laws) C
+      → Triple 𝓤 (C f) (Ask4 N O R Q P Said 𝓤 H A) → (n : N .Denot) (s : Val) → Is N n (s ∷ []) → (o : O .Denot) (t : Val) → Is O o (t ∷ [])
+      → (z : R .Denot) (u : Val) → Is R z (u ∷ []) → (y : Q .Denot) (v : Val) → Is Q y (v ∷ [])
+      → Opds K W (‵ ftrue ∷ Γ) E xs (s ∷ t ∷ u ∷ v ∷ []) → ((w : Val) → Got P (Said n o z y) w → Seq K W Γ (lands C Λ E d w rest k))
+      → Seq K W Γ (runs C Λ E (seq (call f xs d) rest) k)
+  asks4 i N O R Q P nr or rr qr Said fm known n s n-is o t o-is z u z-is y v y-is opds then =
+      nothing i $ calls-from i fm (‵ ftrue) (s ∷ t ∷ u ∷ v ∷ []) (λ w. H .⇛ (sep 𝓤 (emp 𝓤) (fact 𝓤 (Got P (Said n o z y) w))))
+      (calls-given 𝓤 H A W C fm (Ask4 N O R Q P Said 𝓤 H A) known
+      ((tt, tt, tt, (n, (o, (z, (y, tt)))), (s ∷ [], (t ∷ [], (u ∷ [], (v ∷ [], tt))))), tt) (emp 𝓤) (emp 𝓤) _
+      (qed W [] ∵ nothing ! $ owned ! Q (Is Q) (qr .makes 𝓤 H A W) y _ y-is $ fjoin ! $ owned ! R (Is R) (rr .makes 𝓤 H A W) z _ z-is $ fjoin ! $
+      owned ! O (Is O) (or .makes 𝓤 H A W) o _ o-is $ fjoin ! $ owned ! N (Is N) (nr .makes 𝓤 H A W) n _ n-is $ fjoin ! $
+      nothing ! $ join ! $ nothing ! $ move ! (1 ∷ 0 ∷ []) $ join ! $ frame ! $ done !)
+      (λ w. plainly 𝓤 H A W P (emp 𝓤) (ensured 𝓤 H A (ask4-ended N O R Q P Said) (ask4-clauses N O R Q P Said 𝓤) tt (n, (o, (z, (y, tt)))) tt)
+      (Said n o z y) w
+      (λ r. exE 𝓤 _ (λ ws. snd∗ 𝓤 (sem 𝓤 H A (lasts (ask4-ended N O R Q P Said) tt (n, (o, (z, (y, tt)))) ws)) (fact 𝓤 (Said n o z y r))))))
+      opds (λ w. use1 W (later (‵ ftrue ⊛ raw (fact 𝓤 (Got P (Said n o z y) w)))) (id⊢ 𝓤 _) $ await i tt $ split i $ drop i $
+      heard i (Got P (Said n o z y) w) (λ p. then w p))
 
   -- the table is lent as `&` for a lifetime of the call, and is back where the result is stored
   pub takes : K → (F : Side) → FmC 𝓤 H (W .laws) C → Triple 𝓤 (C f) (Take F 𝓤 H A) → {κ : Lft} {q : Share} {γ : GName} (b o : ℕ) (ys : List (F .S .Denot))

@@ -12,12 +12,12 @@ use Rattle.entries.specs.declared.Previous.the-variants.{Id}
 use Rattle.entries.specs.Entries.{Entry, sameId, isListed, isRecentIn, isOldIn, enter}
 use Rattle.records.specs.Node.{isInit, isNorm, isRecons}
 use Rattle.records.specs.Client.{Write}
-use Rattle.basics.proofs.Updates.{upd, upd-same, upd-other}
+use Rattle.basics.proofs.Updates.{upd, upd-same, upd-other, upd-ind}
 use Rattle.basics.proofs.Tests.{each-place, same-or, clash, is-false, or-one, or-left, or-right}
 use Rattle.machine.proofs.EntryLaws.{same-id, same-id-refl, listed-enter, recent-enter, old-enter, last-enter}
-use Rattle.machine.proofs.Columns.{Ops, isUnl, isL0, Columns, setBlocks, setEntries, setHands, setFinished, setNexts, setDifferences}
+use Rattle.machine.proofs.Columns.{Ops, L1, isUnl, isL0, Columns, setBlocks, setEntries, setHands, setFinished, setNexts, setDifferences}
 use Rattle.machine.proofs.Ledger.{Ledger, upd2}
-use Rattle.machine.proofs.Invariant.{Ghost, Laws, code, Spot, at, Between, IdsOk, Live, Unwritten, Among, ListOk, NodeOk, HandOk, FinishedOk, writes, Inv}
+use Rattle.machine.proofs.Invariant.{Ghost, Laws, IsNode, code, Spot, at, Between, IdsOk, Live, Unwritten, Among, ListOk, NodeOk, HandOk, FinishedOk, writes, Inv}
 use Rattle.machine.proofs.Frame.{live-cases, norm-live, upd2-same, upd2-pos, upd2-at, upd2-other, upd2-ind, list-frame, Grown, node-frame, hand-frame, no-writer, phase-quiet, rebuild-quiet}
 
 module _ (O : Ops) where
@@ -295,6 +295,8 @@ module _ (O : Ops) where
           phase = λ c m r. phase-quiet O G G' refl c m (s .phase c) (s .op m) (s .lock m) (s .epoch m) (nobody c) (I .phase c m r);
           rebuild = λ c. rebuild-quiet O G' h' (s .spare) c (s .phase c) (nobody c);
           one = I .one;
+          shown = λ c m r t. upd-ind (λ m y. IsNode O m → s .lock m ≡ L1 c → s .spare m ≡ y) (s .block) j b
+              (λ r l. clash (rw l at (T .lock)) refl) (λ m d r l. I .shown c m r t l) m r;
         }
       where
         nobody : (c : ℕ) → writes (s .phase c) ≡ false

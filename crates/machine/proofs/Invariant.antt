@@ -50,6 +50,15 @@ writes (Writing x w e) = true
 writes (Settling x e) = true
 writes (Unlocking x) = false
 
+-- finished, and its nodes not all given back
+abbrev pub unlocks : Rebuild → Bool
+unlocks NoRebuild = false
+unlocks (Locking old) = false
+unlocks (Picking t) = false
+unlocks (Writing x w e) = false
+unlocks (Settling x e) = false
+unlocks (Unlocking x) = true
+
 module _ (O : Ops) where
   open Ops O using (B, k, n, zeroes, diff, mulAdd, parity, decode)
 
@@ -210,10 +219,12 @@ module _ (O : Ops) where
     pub spare : (j : ℕ) → 1 ≤ j → j ≤ n → sp j ≡ code j (at h (G .cut))
     pub count : settles ≡ some 0
 
-  pub record SettlerOk (G : Ghost) (settles : Option ℕ) (x e : ℕ) : Type 0 where
+  pub record SettlerOk (G : Ghost) (h : Ledger B) (sp : ℕ → B) (settles : Option ℕ) (x e : ℕ) : Type 0 where
     pub epoch : G .base ≤ e
+    pub between : (i : ℕ) → IsPos O i → Between h (G .cut i) i
     pub low : 1 ≤ x
     pub high : x ≤ n
+    pub spare : (j : ℕ) → 1 ≤ j → j ≤ n → sp j ≡ code j (at h (G .cut))
     pub count : (y : ℕ) → x ≡ suc y → settles ≡ some y
 
   abbrev pub RebuildOk : Ghost → Ledger B → (ℕ → B) → ℕ → Rebuild → Type 0
@@ -221,7 +232,7 @@ module _ (O : Ops) where
   RebuildOk G h spare c (Locking old) = Unit {0}
   RebuildOk G h spare c (Picking t) = Unit {0}
   RebuildOk G h spare c (Writing x w e) = WriterOk G h spare (h .settles c) x (e .0)
-  RebuildOk G h spare c (Settling x e) = SettlerOk G (h .settles c) x (e .0)
+  RebuildOk G h spare c (Settling x e) = SettlerOk G h spare (h .settles c) x (e .0)
   RebuildOk G h spare c (Unlocking x) = Unit {0}
 
   pub record Inv (G : Ghost) (h : Ledger B) (s : Columns B) : Type 0 where
@@ -236,6 +247,8 @@ module _ (O : Ops) where
     pub phase : (c j : ℕ) → IsNode j → PhaseOk G c (s .phase c) j (s .op j) (s .lock j) (s .epoch j)
     pub rebuild : (c : ℕ) → RebuildOk G h (s .spare) c (s .phase c)
     pub one : (c d : ℕ) → writes (s .phase c) ≡ true → writes (s .phase d) ≡ true → c ≡ d
+    -- a node that a finished rebuild still holds has the spare's block
+    pub shown : (c j : ℕ) → IsNode j → unlocks (s .phase c) ≡ true → s .lock j ≡ L1 c → s .spare j ≡ s .block j
 
   -- the invariant with its ghost
   pub record Good (h : Ledger B) (s : Columns B) : Type 0 where

@@ -1,7 +1,7 @@
 -- What a call keeps: the invariant, and the shapes of the tables. A refusal that changes nothing keeps them, once for all calls.
--- A call X of specs/GROUP (Writing, Rebuild or Failure) has its definition `GROUP.X` there, its lemma `X-kept` in KeptGROUP (from Good and Fits before
--- it, Kept of its step), and `X-good`, the same on columns, below GROUP/: check and drop in Writing/Check, the calls of locks alone in Rebuild/Locks, the
--- others in files of their own names. Assumes nothing.
+-- A call X of specs/GROUP (Writing, Reading, Rebuild, Failure or Aging) has its definition `GROUP.X` there, its lemma `X-kept` in KeptGROUP (from Good
+-- and Fits before it, Kept of its step), and, if it changes a column, `X-good`, the same on columns, below GROUP/: check and drop in Writing/Check, the
+-- calls of locks alone in Rebuild/Locks, the others in files of their own names. Assumes nothing.
 use mathlib.Core.Path.{_≡_, refl, sym, subst}
 use mathlib.Core.Bool.{Bool, true, false, cond}
 use mathlib.Core.Option.{Option, none, some}

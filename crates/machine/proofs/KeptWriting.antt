@@ -1,5 +1,5 @@
 -- The calls of specs/Writing keep the invariant and the shapes of the tables. Assumes nothing.
-use mathlib.Core.Path.{_≡_, refl, sym, ap, subst, _∙_}
+use mathlib.Core.Path.{_≡_, refl, ap, _∙_}
 use mathlib.Core.Bool.{Bool, true, false, cond, _&&_, _||_, not}
 use mathlib.Core.List.{List}
 use mathlib.Core.Option.{Option, none, some}
@@ -8,11 +8,11 @@ use native.Mathlib.Numerals.{add-one}
 use native.Mathlib.Omega.{arith}
 use lib.Dec.{leb, ltb}
 use lib.ListN.{length}
-use borrow.Author.Tests.{leb-true, ltb-true, ltb-false, eqb-true, not-true, not-false, lt-leb}
+use borrow.Author.Tests.{leb-true, ltb-true, eqb-true, not-true, not-false, lt-leb}
 use Rattle.blocks.specs.Blocks.{block, setBlock, difference, addTimes, Bytes}
 use Rattle.code.specs.Code.{coefficient}
 use Rattle.code.specs.Decode.{has, including}
-use Rattle.entries.specs.Entries.{Entry, enter, isListed, isRecentIn, previousRecent}
+use Rattle.entries.specs.Entries.{Entry, enter, isRecentIn, previousRecent}
 use Rattle.records.specs.declared.Sizes.{Sizes}
 use Rattle.records.specs.declared.Refusal.{Refusal}
 use Rattle.records.specs.Sizes.{sizesWithin, isClient, isPosition, isNode, isRedundant}
@@ -31,7 +31,7 @@ use Rattle.machine.proofs.Ledger.{Ledger, note}
 use Rattle.machine.proofs.Invariant.{Laws, Good}
 use Rattle.machine.proofs.Frame.{norm-live}
 use Rattle.machine.proofs.Bytes.{Block, view, blockOf, ops}
-use Rattle.machine.proofs.View.{columns, withClient, withNodes, withClients, set-same, put-node, put-client, put-back, upd-keep, setAt-length, unl-is, l0-is}
+use Rattle.machine.proofs.View.{columns, withClient, withNodes, withClients, set-same, put-node, put-client, upd-keep, setAt-length, unl-is, l0-is}
 use Rattle.machine.proofs.Tables.{put-block, length-put, bytes-put, bytes-block, length-block, bytes-difference, length-difference, view-difference, bytes-add, length-add, view-add, block-view}
 use Rattle.machine.proofs.Tests.{swap-passes, AddPasses, add-passes, add-empty}
 use Rattle.machine.proofs.Kept.{Fits, Kept, entry, KeptAt, at-refused, at-guard, at-unless, at-same}
@@ -95,13 +95,6 @@ module _ (z : Sizes) (L : Laws (ops z)) (h : Ledger Block) (s : Stripe) (g : Goo
   -- an accepted call that leaves all as it was
   kept-same : (x : Call) (j c : ℕ) (a : Answer) → Quiet x a → After x j c (answered a (atNode j c s))
   kept-same = at-same z h s g f
-
-  pub read-kept : (i : ℕ) → Kept z h (Calls.read i) (step z (Calls.read i) s)
-  unfolding step Writing.read
-  read-kept i = tested x i 0 _ _ _ (λ r1. tested x i 0 _ _ _ (λ r2. tested x i 0 _ _ _ (λ r4. kept-same x i 0 _ (λ b. refl))))
-    where
-      x : Call
-      x = Calls.read i
 
   ---- what an accepted call leaves
   pub put-fits : (j c : ℕ) (l : Local) → Sized (z .n * z .b) (l .blocks) → Sized (z .m * z .b) (l .differences) → Fits z (putNode j c l s)

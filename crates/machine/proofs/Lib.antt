@@ -24,12 +24,15 @@ pub mod Relocks
 -- the set that a pick takes
 pub mod Largest
 pub mod Candidates
+-- the cases of a read
+pub mod Reading
 -- the machine's calls keep the invariant
 pub mod Tests
 pub mod Kept
 pub mod InPhase
 pub mod KeptStart
 pub mod KeptWriting
+pub mod KeptReading
 pub mod KeptRebuild
 pub mod KeptFailure
 pub mod KeptAging

@@ -11,6 +11,7 @@ use Rattle.records.specs.declared.Refusal.the-variants.{OutOfLimits}
 use Rattle.records.specs.Sizes.{sizesWithin}
 use Rattle.machine.specs.Stripe.{Stripe, refused, guard, clientAt, onNode}
 use Rattle.machine.specs.Writing as Writing
+use Rattle.machine.specs.Reading as Reading
 use Rattle.machine.specs.Rebuild as Rebuild
 use Rattle.machine.specs.Failure as Failure
 use Rattle.machine.specs.Aging as Aging
@@ -37,8 +38,8 @@ module _ (z : Sizes) (s : Stripe) (e : sizesWithin z ≡ false) where
   by-outside Quit c = sym (refused-on s OutOfLimits c (Rebuild.quit z c) (rw e))
 
   pub step-outside : (call : Call) → refused OutOfLimits s ≡ step z call s
-  unfolding step guard Writing.read Writing.swap Failure.fail Aging.due Aging.tick Rebuild.pick
-  step-outside (Read i) = sym (refused-at s OutOfLimits i 0 (Writing.read z i) (rw e))
+  unfolding step guard Reading.readOr Reading.read Writing.swap Failure.fail Aging.due Aging.tick Rebuild.pick
+  step-outside (Read i) = rw e
   step-outside (Pick c) = sym (refused-on s OutOfLimits c (Rebuild.pick z c) (rw e))
   step-outside (Swap c i value) = sym (refused-at s OutOfLimits i c (Writing.swap z c i value) (rw e))
   step-outside (Fail j value) = sym (refused-at s OutOfLimits j 0 (Failure.fail z j value) (rw e))

@@ -27,6 +27,7 @@ use Rattle.machine.specs.Calls.{Call, Read, Pick, Swap, Fail, Due, Tick,
 use Rattle.basics.proofs.Tests.{clash, cond-ind}
 use Rattle.machine.proofs.View.{put-back, put-whole-back}
 use Rattle.machine.proofs.Kept.{refusal-number}
+use Rattle.machine.proofs.Reading.{read-leaves}
 
 -- whether a call with this answer may change anything: it is accepted, or refused with 9 or 10
 abbrev mayChange : ℕ → Bool
@@ -55,10 +56,6 @@ module _ {S : Type 0} (s : S) where
 
 module _ (z : Sizes) where
   module _ (l : Local) where
-    read-same : (i : ℕ) → Same l (Writing.read z i l)
-    unfolding Writing.read
-    read-same i = same-guard l _ _ _ (same-guard l _ _ _ (same-guard l _ _ _ (same-other l _ _ refl)))
-
     unless-same : (tests : Option Refusal) (effect : Outcome Local) → Same l effect → Same l (Writing.unless tests l effect)
     unless-same none effect k = k
     unless-same (some why) effect k = same-refused l why
@@ -193,7 +190,7 @@ module _ (z : Sizes) where
 
     call-same : (call : Call) → Same s (step z call s)
     unfolding step
-    call-same (Read i) = at-same i 0 (Writing.read z i) (read-same (atNode i 0 s) i)
+    call-same (Read i) = record { left = λ e. read-leaves z i s }
     call-same (Pick c) = on-same c (Rebuild.pick z c) (pick-same c (whole c s))
     call-same (Swap c i value) = at-same i c (Writing.swap z c i value) (swap-same (atNode i c s) c i value)
     call-same (Fail j value) = at-same j 0 (Failure.fail z j value) (fail-same (atNode j 0 s) j value)

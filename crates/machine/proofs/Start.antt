@@ -1,5 +1,6 @@
--- A fresh stripe has the invariant, and from the invariant follows what the guarantee says of a stripe with every write done. Assumes nothing.
-use mathlib.Core.Path.{_≡_, refl, sym, ap, _∙_}
+-- A fresh stripe has the invariant, and from the invariant follows what the guarantee says of a block that a read shows (`live-part`, `spare-part`)
+-- and of a stripe with every write done (`steady`). Assumes nothing.
+use mathlib.Core.Path.{_≡_, refl, sym, ap, subst, _∙_}
 use mathlib.Core.Logic.{_⊎_, inl, inr}
 use mathlib.Core.Bool.{true, false}
 use mathlib.Core.List.{[]}
@@ -10,13 +11,14 @@ use lib.Dec.{leb}
 use borrow.Author.Tests.{leb-true, leb-false, eqb-true}
 use Rattle.code.specs.Decode.{has, noNodes}
 use Rattle.records.specs.Node.{isInit, isRecons}
-use Rattle.records.specs.Client.{NoRebuild}
+use Rattle.records.specs.Client.{Rebuild, NoRebuild, Locking, Picking, Writing, Settling, Unlocking, hasPicked}
 use Rattle.basics.proofs.Tests.{clash, is-false, bool-cases, not-some}
 use Rattle.machine.proofs.EntryLaws.{in-nil, listed-nil}
-use Rattle.machine.proofs.Columns.{Ops, Unl, Columns}
-use Rattle.machine.proofs.Ledger.{Ledger, IsPos, IsCodeword, Steady, AllDone, noLedger, zeroth}
-use Rattle.machine.proofs.Invariant.{Ghost, Laws, code, IsNode, at, Between, NodeOk, Good}
-use Rattle.machine.proofs.Frame.{code-data, code-red, code-ext}
+use Rattle.machine.proofs.Columns.{Ops, Unl, L1, Columns}
+use Rattle.machine.proofs.Ledger.{Ledger, IsPos, IsCodeword, IsPart, Steady, AllDone, noLedger, zeroth}
+use Rattle.machine.proofs.Invariant.{Ghost, Laws, unlocks, code, IsNode, at, Between, NodeOk, Good}
+use Rattle.machine.proofs.Frame.{norm-live, code-data, code-red, code-ext}
+use Rattle.machine.proofs.Phases.{held-l1, phase-is, rebuild-is}
 use Rattle.machine.proofs.Sets.{no-nodes}
 
 module _ (O : Ops) where
@@ -111,11 +113,40 @@ module _ (O : Ops) where
           phase = λ c j r. rw (F .phase c, F .lock j);
           rebuild = λ c. rw (F .phase c) tt;
           one = λ c d a b. clash (rw (F .phase c) at a) refl;
+          shown = λ c j r t. clash (rw (F .phase c) at t) refl;
         };
       }
     where
       not-member : {A : Type 0} (j l : ℕ) → has (s .rset j) l ≡ true → A
       not-member j l t = clash (rw (F .rset j) at t) (no-nodes l)
+
+  ---- the block of a live data node is what a first part of the swaps there gave, with all that is done in it
+  pub live-part : (h : Ledger B) (s : Columns B) → Good O h s → (i : ℕ) → IsPos O i → isInit (s .op i) ≡ false → IsPart O h i (s .block i)
+  live-part h s g i p live =
+      let v = g .inv .node i .live live in
+      let own = v .between i (record { pos = p; sees = inl refl }) in
+      (g .ghost .inBlock i i, (own .most, v .block ∙ code-data O i (at O h (g .ghost .inBlock i)) (p .high), own .least))
+
+  -- so is the spare's, while a client whose pick was accepted holds all nodes at L1
+  pub spare-part : Laws O → (h : Ledger B) (s : Columns B) → Good O h s → (c i : ℕ) → IsPos O i → hasPicked (s .phase c) ≡ true →
+      ((j : ℕ) → IsNode O j → s .lock j ≡ L1 c) → IsPart O h i (s .spare i)
+  spare-part L h s g c i p picks held = go (s .phase c) refl picks
+    where
+      b : IsNode O i
+      b = record { low = p .low; high = omega (arith, p .high, L .k-n) }
+
+      at-cut : Between O h (g .ghost .cut i) i → s .spare i ≡ code O i (at O h (g .ghost .cut)) → IsPart O h i (s .spare i)
+      at-cut v q = (g .ghost .cut i, (v .most, q ∙ code-data O i (at O h (g .ghost .cut)) (p .high), v .least))
+
+      go : (q : Rebuild) → s .phase c ≡ q → hasPicked q ≡ true → IsPart O h i (s .spare i)
+      go NoRebuild is t = clash t refl
+      go (Locking old) is t = clash t refl
+      go (Picking x) is t = clash t refl
+      go (Writing x w e) is t = let r = rebuild-is O (g .inv) c is in at-cut (r .between i p) (r .spare i (b .low) (b .high))
+      go (Settling x e) is t = let r = rebuild-is O (g .inv) c is in at-cut (r .between i p) (r .spare i (b .low) (b .high))
+      go (Unlocking x) is t =
+          let norm = phase-is O (g .inv) c is i b .norm (rw (held i b) (held-l1 c)) in
+          subst (IsPart O h i) (sym (g .inv .shown c i b (ap unlocks is) (held i b))) (live-part h s g i p (norm-live (s .op i) norm))
 
   ---- with every write done and no node failed each block is that of the last values
   pub steady : Laws O → (h : Ledger B) (s : Columns B) → Good O h s → Steady O h (s .block)

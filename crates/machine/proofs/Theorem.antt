@@ -1,5 +1,5 @@
--- Demand 3, proved: what specs/Guarantee states, of every list of calls. Assumes nothing.
-use mathlib.Core.Path.{_≡_, refl, ap, subst}
+-- Demand 3, proved, and what C-15 promises of reads: what specs/Guarantee states, of every list of calls. Assumes nothing.
+use mathlib.Core.Path.{_≡_, refl, sym, ap, subst}
 use mathlib.Core.Logic.{_⊎_, inl, inr}
 use mathlib.Core.Bool.{Bool, true, false, _&&_}
 use mathlib.Core.List.{List, [], _∷_}
@@ -23,21 +23,22 @@ use Rattle.machine.specs.Writing as Writing
 use Rattle.machine.specs.Calls.{Call, Read, Pick, Swap, Fail, Due, Tick, At, By, step}
 use Rattle.machine.specs.Calls as Calls
 use Rattle.machine.specs.History.{Event, Kind, SwapInto, AddBy, PickBy, SettleBy, Failure, Other, kind, happened, accepted, nodesAt, sizesAt, finishes}
-use Rattle.machine.specs.Guarantee.{Request, Run, Allowed, AllAllowed, made, play, start, valueOf, RebuiltWell, Holds, EveryList, Demand3, PartOfAll, KeepsDone}
+use Rattle.machine.specs.Guarantee.{Request, Run, Allowed, AllAllowed, made, play, start, valueOf, RebuiltWell, Holds, EveryList, Demand3, PartOfAll, KeepsDone, Shows, ReadsPart}
 use Rattle.basics.proofs.Tests.{clash, and-both, bool-cases, cond-ind}
 use Rattle.machine.proofs.Ledger.{Ledger, Rebuilt, note, noLedger}
 use Rattle.machine.proofs.Invariant.{Laws, Good}
 use Rattle.machine.proofs.Bytes.{Block, blockOf, ops}
 use Rattle.machine.proofs.View.{columns}
 use Rattle.machine.proofs.Kept.{Fits, Kept, entry}
-use Rattle.machine.proofs.KeptWriting.{read-kept, swap-kept, add-kept, check-kept, drop-kept, sweep-kept}
+use Rattle.machine.proofs.KeptWriting.{swap-kept, add-kept, check-kept, drop-kept, sweep-kept}
+use Rattle.machine.proofs.KeptReading.{PartShown, read-kept, read-shown}
 use Rattle.machine.proofs.KeptRebuild.{lock-kept, pick-kept, weaken-kept, tighten-kept, write-kept, settle-kept, settle-rebuilt, unlock-kept, quit-kept}
 use Rattle.machine.proofs.KeptFailure.{stop-kept, fail-kept}
 use Rattle.machine.proofs.KeptAging.{due-kept, tick-kept}
 use Rattle.machine.proofs.KeptStart.{fresh-good, fresh-fits}
 use Rattle.machine.proofs.Refusals.{limits-same}
 use Rattle.machine.proofs.Start.{steady}
-use Rattle.machine.proofs.Told.{Told, SwapsBlocks, told-start, told-more, Finishes, finish-is, rebuilt-well, last-values}
+use Rattle.machine.proofs.Told.{Told, SwapsBlocks, told-start, told-more, Finishes, finish-is, first-part, rebuilt-well, last-values}
 use Rattle.machine.proofs.Rooted.{Rooted, rooted-start, rooted-more, part-of-all}
 use Rattle.machine.proofs.CodeLaws.{code-laws}
 
@@ -50,6 +51,7 @@ record Known-call (z : Sizes) (h : Ledger Block) (x : Call) (o : Outcome Stripe)
   kept : Kept z h x o
   swapped : SwapsBlocks z (eventOf x o)
   rebuilt : Finishes z h (eventOf x o) → Rebuilt (ops z) h (blockOf (z .b) (o .after .blocks))
+  shown : (i : ℕ) → x ≡ Read i → accepted (eventOf x o) ≡ true → Shows (PartShown z h i) (o .answer)
 
 -- how the stripe stands, where the sizes are z
 record Standing (z : Sizes) (h : Ledger Block) (s : Stripe) : Type 0 where
@@ -65,6 +67,7 @@ record Known (z : Sizes) (run : Run) : Type 0 where
   rooted : (i : ℕ) → 1 ≤ i → i ≤ z .k → Rooted z i (run .past)
   holds : Holds z run
   keeps-done : KeepsDone z run
+  reads-part : ReadsPart z run
 
 abbrev isSwap : Kind → Bool
 isSwap (SwapInto c i v) = true
@@ -115,12 +118,18 @@ module _ (z : Sizes) (within : sizesWithin z ≡ true) where
           kept = record { good = rw (refused, same) g; fits = rw same fit };
           swapped = λ c i v is. other (rw refused at is);
           rebuilt = λ F. clash (F .is-accepted) refused;
+          shown = λ i is t. clash t refused;
         }
       where
         other : {A : Type 0} {c i : ℕ} {v : List ℕ} → Other ≡ SwapInto c i v → A
         other q = let t : _≡_ {A = ℕ} 0 1 = cc in absurd (omega arith)
 
     ---- a call with the list's sizes
+    -- what is shown, if it is a read
+    reads : (i : ℕ) → x ≡ Read i → accepted (eventOf x (step z x s)) ≡ true → Shows (PartShown z h i) (step z x s .answer)
+    reads i is =
+        subst (λ x. accepted (eventOf x (step z x s)) ≡ true → Shows (PartShown z h i) (step z x s .answer)) (sym is) (read-shown z L h s g fit i)
+
     -- a call that is no swap
     unswapped : isSwap (kind x) ≡ false → SwapsBlocks z (eventOf x (step z x s))
     unswapped no-swap c i v is =
@@ -133,6 +142,7 @@ module _ (z : Sizes) (within : sizesWithin z ≡ true) where
           kept = k;
           swapped = unswapped no-swap;
           rebuilt = λ F. clash (ap isSettle (F .settle)) no-settle;
+          shown = reads;
         }
 
   known-swap : (h : Ledger Block) (s : Stripe) → Good (ops z) h (columns z s) → Fits z s → (c i : ℕ) (value : List ℕ) → Bytes value →
@@ -143,6 +153,7 @@ module _ (z : Sizes) (within : sizesWithin z ≡ true) where
         kept = swap-kept z L h s g fit c i value bytes;
         swapped = λ d l v is. swapped d l v (bool-cases (accepted e)) is;
         rebuilt = λ F. clash (ap isSettle (F .settle)) refl;
+        shown = reads h s g fit (Swap c i value);
       }
     where
       e : Event
@@ -177,6 +188,7 @@ module _ (z : Sizes) (within : sizesWithin z ≡ true) where
             kept = settle-kept z L h s g fit c;
             swapped = unswapped h s g fit (Calls.settle c) refl;
             rebuilt = λ F. settle-rebuilt z L h s g fit c (F .is-accepted);
+            shown = reads h s g fit (Calls.settle c);
           }
       by-client Unlock c = quiet (Calls.unlock c) refl refl (unlock-kept z L h s g fit c)
       by-client Quit c = quiet (Calls.quit c) refl refl (quit-kept z L h s g fit c)
@@ -200,9 +212,10 @@ module _ (z : Sizes) (h : Ledger Block) (past : List Event) (T : Told z h past) 
   abbrev after : Ledger Block
   after = note (ops (sizesAt z past)) h (entry z x (o .answer)) (blockOf (z .b) (o .after .blocks))
 
-  -- whatever sizes it leaves: from how the stripe stands then, and what the call is if it is a swap or the end of a rebuild
+  -- whatever sizes it leaves: from how the stripe stands then, and what the call is if it is a swap, the end of a rebuild or a read
   module _ (S : Standing (sizesAt z (e ∷ past)) after (o .after)) (swapped : SwapsBlocks z e)
-      (rebuilt : finishes z e past ≡ true → RebuiltWell z past (o .after .blocks)) where
+      (rebuilt : finishes z e past ≡ true → RebuiltWell z past (o .after .blocks))
+      (shown : (i : ℕ) → x ≡ Read i → accepted e ≡ true → Shows (PartOfAll z i past) (o .answer)) where
     abbrev now : Sizes
     now = sizesAt z (e ∷ past)
 
@@ -231,6 +244,10 @@ module _ (z : Sizes) (h : Ledger Block) (past : List Event) (T : Told z h past) 
               let own : d ≡ e = cc in
               subst (λ p. PartOfAll z i p (block (z .b) i (o .after .blocks))) same
               (part-of-all z i past (o .after .blocks) (R i i1 ik) (rebuilt (rw (← own, same) ends) .position i i1 ik));
+          reads-part = λ d later is i call ok.
+              let same : past ≡ later = cc in
+              let own : d ≡ e = cc in
+              rw (own, ← same) (shown i (rw own at call) (rw own at ok));
         }
 
   -- no call changes the sizes
@@ -239,13 +256,22 @@ module _ (z : Sizes) (h : Ledger Block) (past : List Event) (T : Told z h past) 
   nodes-on = refl
 
   known-next : sizesWithin (sizesAt z past) ≡ true → Known-call (sizesAt z past) h x o → Known z (record { stripe = o .after; past = e ∷ past })
-  known-next within N = known-run (rw nodes-on (record { within = within; good = N .kept .good; fits = f })) (N .swapped) rebuilt
+  known-next within N = known-run (rw nodes-on (record { within = within; good = N .kept .good; fits = f })) (N .swapped) rebuilt shown
     where
       f : Fits (sizesAt z past) (o .after)
       f = N .kept .fits
 
       rebuilt : finishes z e past ≡ true → RebuiltWell z past (o .after .blocks)
       rebuilt ends = rebuilt-well z h past T within (o .after .blocks) (f .blocks) (f .blocks-bytes) (N .rebuilt (finish-is z h e past T ends))
+
+      shown : (i : ℕ) → x ≡ Read i → accepted e ≡ true → Shows (PartOfAll z i past) (o .answer)
+      shown i is ok =
+          let S = N .shown i is ok in
+          let v = S .holds in
+          let i1 = v .pos .low in
+          let ik = v .pos .high in
+          let part = first-part z h past T within (v .table) (v .long) (v .bytes) (v .reported) i i1 ik (v .part) in
+          record { source = S .source; shown = S .shown; is = S .is; holds = rw (v .is) (part-of-all z i past (v .table) (R i i1 ik) part) }
 
 module _ (z : Sizes) where
   ---- the whole list
@@ -287,6 +313,7 @@ module _ (z : Sizes) where
           told = told;
           rooted = λ i i1 ik. rooted-start z i i1 (omega (arith, L .k-n));
           keeps-done = λ e past is. no-event is;
+          reads-part = λ e past is. no-event is;
           holds = record {
             rebuilt = λ e past is. no-event is;
             steady = last-values z (noLedger (ops z)) [] told within (start z spare differences .stripe .blocks) (fits .blocks)
@@ -307,3 +334,6 @@ demand3 z within spare differences ls ld bs bd calls allowed = known z within sp
 
 pub keeps-done : EveryList KeepsDone
 keeps-done z within spare differences ls ld bs bd calls allowed = known z within spare differences ls ld bs bd calls allowed .keeps-done
+
+pub reads-part : EveryList ReadsPart
+reads-part z within spare differences ls ld bs bd calls allowed = known z within spare differences ls ld bs bd calls allowed .reads-part

@@ -2,7 +2,8 @@
 --     Told                         what the ledger tells of the history
 --     told-start, told-more        it holds before all calls, and one call more keeps it
 --     finish-is                    what finishes a rebuild by the history does so by the ledger
---     rebuilt-well, last-values    what is proved of the ledger holds of the history
+--     first-part, rebuilt-well,
+--     last-values                  what is proved of the ledger holds of the history
 -- Assumes nothing.
 use mathlib.Core.Path.{_≡_, refl, sym, ap, subst, _∙_}
 use mathlib.Core.Logic.{_≢_, _⊎_, inl, inr}
@@ -519,7 +520,7 @@ module _ (z : Sizes) where
         view-injective b (block b i blocks) (lastValue (block b i (given z past)) (take l (swapsAt z i past)))
         (length-block b (now .n) i blocks i1 in-n long) (t .long) (bytes-block b i blocks bytes) (t .bytes) (sym (block-view b blocks i i1) ∙ q ∙ t .seen)
 
-    first-part : h .stale ≡ false → (i : ℕ) → 1 ≤ i → i ≤ k → IsPart (ops now) h i (blockOf b blocks i) → FirstPart z i past blocks
+    pub first-part : h .stale ≡ false → (i : ℕ) → 1 ≤ i → i ≤ k → IsPart (ops now) h i (blockOf b blocks i) → FirstPart z i past blocks
     first-part fresh i i1 ik p =
         record {
           part = p .0;

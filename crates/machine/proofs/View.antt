@@ -14,7 +14,7 @@ use Rattle.records.specs.declared.Lmode.{Lmode}
 use Rattle.records.specs.declared.Lmode.the-variants as Lmode
 use Rattle.records.specs.declared.Holder.{Holder}
 use Rattle.records.specs.declared.Holder.the-variants.{Nobody, Client}
-use Rattle.records.specs.Node.{Node, failedNode, isHolder}
+use Rattle.records.specs.Node.{Node, failedNode, isHolder, holderNumber}
 use Rattle.records.specs.Node as Node
 use Rattle.records.specs.Client as Client
 use Rattle.records.specs.Client.{freshClient}
@@ -25,15 +25,10 @@ use Rattle.basics.proofs.Tests.{same-or, clash}
 use Rattle.machine.proofs.Columns.{Columns, Lock, Unl, Exp, L0, L1, isUnl, isExp, isL0, isLocked, heldBy, setOps, setLocks, setEpochs, setRsets, setEntries, setHands, setPhases, setFinished, setNexts}
 use Rattle.machine.proofs.Bytes.{Block, blockOf}
 
--- no client is number 0
-abbrev pub holderOf : Holder → ℕ
-holderOf Nobody = 0
-holderOf (Client c) = c
-
 abbrev pub lockOf : Lmode → Holder → Lock
 lockOf Lmode.Unl h = Unl
-lockOf Lmode.L0 h = L0 (holderOf h)
-lockOf Lmode.L1 h = L1 (holderOf h)
+lockOf Lmode.L0 h = L0 (holderNumber h)
+lockOf Lmode.L1 h = L1 (holderNumber h)
 lockOf Lmode.Exp h = Exp
 
 -- the lock of a node's record

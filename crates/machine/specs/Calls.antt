@@ -12,6 +12,7 @@ use Rattle.records.specs.declared.Refusal.{Refusal}
 use Rattle.records.specs.Refusals.{changes}
 use Rattle.machine.specs.Stripe.{Stripe, Refused, Outcome, Local, clientAt, onNode, onWhole}
 use Rattle.machine.specs.Writing as Writing
+use Rattle.machine.specs.Reading as Reading
 use Rattle.machine.specs.Rebuild as Rebuild
 use Rattle.machine.specs.Failure as Failure
 use Rattle.machine.specs.Aging as Aging
@@ -85,7 +86,8 @@ due j = Due j
 abbrev pub tick : Call
 tick = Tick
 
--- a call is handed the sizes, and of the stripe what it touches: node j's record and client c's, or all node records and client c's
+-- a call is handed the sizes, and of the stripe what it touches: node j's record and client c's, or all node records and client c's; a read is at no
+-- client, and touches nothing
 abbrev pub stepAt : NodeCall → Sizes → ℕ → ℕ → Local → Outcome Local
 stepAt Add z c j l = Writing.add z c j l
 stepAt Check z c j l = Writing.check z c j l
@@ -103,7 +105,7 @@ stepBy Unlock z c s = onWhole c (Rebuild.unlock z c) s
 stepBy Quit z c s = onWhole c (Rebuild.quit z c) s
 
 unfoldable pub step : Sizes → Call → Stripe → Outcome Stripe
-step z (Read i) s = onNode i 0 (Writing.read z i) s
+step z (Read i) s = Reading.read z i s
 step z (Pick c) s = onWhole c (Rebuild.pick z c) s
 step z (Swap c i value) s = onNode i c (Writing.swap z c i value) s
 step z (Fail j value) s = onNode j 0 (Failure.fail z j value) s

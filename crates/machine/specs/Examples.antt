@@ -42,7 +42,7 @@ sizeOf (SetSize size) = size ∷ []
 
 abbrev pub returned : Answer → List ℕ
 returned Accepted = []
-returned (Shown block) = block
+returned (Shown source block) = block
 returned Added = []
 returned Done = []
 returned Rebuilt = []

@@ -9,10 +9,11 @@ use lib.ListN.{length, take, replicate}
 use Rattle.blocks.specs.Blocks.{block, Bytes}
 use Rattle.code.specs.Code.{Codeword}
 use Rattle.records.specs.declared.Sizes.{Sizes}
+use Rattle.records.specs.declared.Source.{Source}
 use Rattle.records.specs.Sizes.{sizesWithin}
-use Rattle.machine.specs.Stripe.{Stripe, number, fresh}
+use Rattle.machine.specs.Stripe.{Stripe, Answer, Shown, number, fresh}
 use Rattle.machine.specs.Calls.{Call, Read, Pick, Swap, Fail, Due, Tick, At, By, step}
-use Rattle.machine.specs.History.{Event, Written, sizesAt, finishes, given, swapsAt, reportedAt, allSwapsAt, allReportedAt, failedSince}
+use Rattle.machine.specs.History.{Event, Written, accepted, sizesAt, finishes, given, swapsAt, reportedAt, allSwapsAt, allReportedAt, failedSince}
 use Rattle.machine.specs.History.{isAmong, lastValue}
 
 -- what is found is the last value of a first part of these swaps (of none: what was there before), and that part holds every write reported.
@@ -113,3 +114,21 @@ abbrev pub KeepsDone : Sizes → Run → Type 0
 KeepsDone z run =
     (e : Event) (past : List Event) → run .past ≡ e ∷ past → finishes z e past ≡ true →
     (i : ℕ) → 1 ≤ i → i ≤ z .k → PartOfAll z i past (block (z .b) i (run .stripe .blocks))
+
+-- C-15: what an accepted read is answered: a block of which P holds, and where it lies
+pub record Shows (P : List ℕ → Type 0) (answer : Answer) : Type 0 where
+  pub source : Source
+  pub shown : List ℕ
+  pub is : answer ≡ Shown source shown
+  pub holds : P shown
+
+-- of the read that a list ends with, if it is accepted; `past` is what came before it
+abbrev pub EachRead : (Sizes → ℕ → List Event → List ℕ → Type 0) → Sizes → Run → Type 0
+EachRead P z run =
+    (e : Event) (past : List Event) → run .past ≡ e ∷ past → (i : ℕ) → e .call ≡ Read i → accepted e ≡ true → Shows (P z i past) (e .answer)
+
+-- C-15: "the spare's block so shown is what a first part of the swaps accepted there before the read gave (zero if none), with every write done there
+-- before in it"; and so is the live block that a read shows. Over the whole list: a write done, a rebuild and a new pick, and a read shows that write
+-- with no swap since the rebuild
+abbrev pub ReadsPart : Sizes → Run → Type 0
+ReadsPart = EachRead PartOfAll

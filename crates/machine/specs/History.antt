@@ -64,7 +64,7 @@ happened e = cond (accepted e) (kind (e .call)) Other
 
 abbrev pub isDone : Answer → Bool
 isDone Accepted = false
-isDone (Shown block) = false
+isDone (Shown source block) = false
 isDone Added = false
 isDone Done = true
 isDone Rebuilt = false

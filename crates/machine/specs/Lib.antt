@@ -1,5 +1,6 @@
 pub mod Stripe
 pub mod Writing
+pub mod Reading
 pub mod Rebuild
 pub mod Failure
 pub mod Aging

@@ -10,6 +10,7 @@ use Rattle.records.specs.declared.Finding.{Finding}
 use Rattle.records.specs.declared.Finding.the-variants as Findings
 use Rattle.records.specs.declared.CheckAnswer.the-variants as CheckAnswers
 use Rattle.records.specs.declared.Refusal.{Refusal}
+use Rattle.records.specs.declared.Source.{Source}
 use Rattle.records.specs.Refusals.{numberOf}
 use Rattle.records.specs.Node.{Node, freshNode, failedNode, nodeWithin}
 use Rattle.records.specs.Client.{Client, freshClient}
@@ -48,8 +49,8 @@ clientAt clients c = elementAt freshClient clients c
 -- what a call is answered; the first lines are the accepted ones
 pub data Answer : Type 0 where
   Accepted : Answer
-  -- a read, with the block shown
-  Shown : List ℕ → Answer
+  -- a read, with where the block lies that is shown, and the block. Source is the code's own (crates/records/src/lib.rt)
+  Shown : Source → List ℕ → Answer
   -- an add, and the add that completes its write
   Added Done : Answer
   -- the nth settle
@@ -71,7 +72,7 @@ NoChange = Told (Findings.Check CheckAnswers.NoChange)
 -- "the answer number (0 if accepted)"
 abbrev pub number : Answer → ℕ
 number Accepted = 0
-number (Shown block) = 0
+number (Shown source block) = 0
 number Added = 0
 number Done = 0
 number Rebuilt = 0

@@ -1,5 +1,5 @@
--- Document 01, "Writing": the calls at one node. Each tests what it is lent, then in the order of the numbers. Answer 1 is decided by the sizes and
---     read           the node's record, the length of the blocks
+-- Document 01, "Writing": the calls at one node, but read, which is in specs/Reading. Each tests what it is lent, then in the order of the numbers.
+-- Answer 1 is decided by the sizes and
 --     swap           the node's record, the client's, the lengths of the blocks, the differences and the value
 --     add            the node's record, the client's, the lengths of the blocks and the differences
 --     check, sweep   the node's record, the client's
@@ -24,7 +24,7 @@ use Rattle.records.specs.declared.Refusal.the-variants.{OutOfLimits, OutOfRange
 use Rattle.records.specs.Sizes.{sizesWithin, isNode, isPosition, isRedundant, isClient}
 use Rattle.records.specs.Node.{Node, isFree, takesAdd, entered, withEntries, nodeWithin}
 use Rattle.records.specs.Client.{Client, Write, hasWrite, withHand, began, finishedWrite, sweptOn, clientWithin}
-use Rattle.machine.specs.Stripe.{Accepted, Shown, Added, Done, CheckInit, CheckGc, NoChange, Outcome, answered, refused, guard, Local}
+use Rattle.machine.specs.Stripe.{Accepted, Added, Done, CheckInit, CheckGc, NoChange, Outcome, answered, refused, guard, Local}
 use Rattle.machine.specs.Stripe.{blocksFit, differencesFit}
 
 -- "1: size, record or buffer length outside the limits": the records and the tables that a call is lent
@@ -50,14 +50,6 @@ test holds why rest = cond holds (some why) rest
 abbrev pub unless : Option Refusal → Local → Outcome Local → Outcome Local
 unless none l effect = effect
 unless (some why) l effect = refused why l
-
--- "Read i: needs node i NORM and UNL; shows its block."
-unfoldable pub read : Sizes → ℕ → Local → Outcome Local
-read z i l =
-    guard (not (sizesWithin z && (nodeWithin z (l .node) && blocksFit z (l .blocks)))) OutOfLimits l
-    (guard (not (isPosition z i)) OutOfRange l
-    (needing (isFree (l .node)) l
-    (answered (Shown (block (z .b) i (l .blocks))) l)))
 
 -- "The next write number, from 0, is used, the id entered as recent"
 abbrev pub newId : ℕ → ℕ → Client → WriteId

@@ -1,4 +1,3 @@
-pub mod Asks
 pub mod Each
 pub mod Insides
 pub mod Part

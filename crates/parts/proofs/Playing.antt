@@ -1,7 +1,7 @@
 -- The law of a function that owns two tables as local arrays of equal records, and plays lines on them, one after another, by calls that are lent the tables.
 -- Assumes nothing.
 --     pub(crate) fn f(
---         blocks: &mut [u8], spare: &mut [u8], differences: &mut [u8], value: &mut [u8], shown: &mut [u8], buffer: &mut [u8], out: &mut [u8],
+--         blocks: &mut [u8], spare: &mut [u8], differences: &mut [u8], value: &mut [u8], buffer: &mut [u8], out: &mut [u8],
 --         node: N, client: C, start: P,
 --     ) -> P {
 --         let mut nodes = [node; NODES];
@@ -10,10 +10,10 @@
 --         while now.goes_on() {
 --             let line = now.next(buffer, value);
 --             let answer = call(&mut nodes, &mut clients, blocks, spare, differences, value, line);
---             let told = read(&nodes, shown, blocks, line);
+--             let told = read(&nodes, &clients, line);
 --             let seen = see(&nodes, line);
 --             let taken = take(&clients, line);
---             let next = line.print(answer, told, seen, taken, blocks, spare, differences, shown, out);
+--             let next = line.print(answer, told, seen, taken, blocks, spare, differences, out);
 --             now = next;
 --         }
 --         now
@@ -315,19 +315,18 @@ module _ (P L : RattleType) (Said : P .Denot → List ℕ → List ℕ → L .De
           move t (2 ∷ []) $ split t $ split t $ fsplit t $ move t (1 ∷ []) $ feqL t (λ len₀. move t (1 ∷ []) $ fsplit t $ move t (1 ∷ []) $
           feqL t (λ len₁. move t (2 ∷ []) $ drop t $ move t (3 ∷ 1 ∷ 2 ∷ []) $ then w z (len₀, len₁) r)))))
 
-module _ (L A B X Y P : RattleType) (Said : L .Denot → A .Denot → B .Denot → X .Denot → Y .Denot → List ℕ → List ℕ → List ℕ → List ℕ → List ℕ → P .Denot
-    → List ℕ → Type 0) where
+module _ (L A B X Y P : RattleType)
+    (Said : L .Denot → A .Denot → B .Denot → X .Denot → Y .Denot → List ℕ → List ℕ → List ℕ → List ℕ → P .Denot → List ℕ → Type 0) where
   abbrev print-ended : Ended
   print-ended = record {
     signature = record {
-      lifetimes = 5;
+      lifetimes = 4;
       outlives = [];
       params = plain (λ _. L) ∷ plain (λ _. A) ∷ plain (λ _. B) ∷ plain (λ _. X) ∷ plain (λ _. Y) ∷
-          shrSlice 0 tt (λ _. u8) ∷ shrSlice 1 tt (λ _. u8) ∷ shrSlice 2 tt (λ _. u8) ∷ shrSlice 3 tt (λ _. u8) ∷ mutSlice 4 tt (λ _. u8) ∷ [];
-      result = plain
-          (λ _. P);
+          shrSlice 0 tt (λ _. u8) ∷ shrSlice 1 tt (λ _. u8) ∷ shrSlice 2 tt (λ _. u8) ∷ mutSlice 3 tt (λ _. u8) ∷ [];
+      result = plain (λ _. P);
     };
-    kept = (yes, (yes, (yes, (yes, (yes, (yes, (yes, (yes, (yes, (yes, tt))))))))));
+    kept = (yes, (yes, (yes, (yes, (yes, (yes, (yes, (yes, (yes, tt)))))))));
   }
 
   abbrev print-clauses : {M : Type 1} (𝓤 : URA M) → Clauses 𝓤 print-ended
@@ -336,43 +335,43 @@ module _ (L A B X Y P : RattleType) (Said : L .Denot → A .Denot → B .Denot �
     requires = λ _. emp 𝓤;
     ensures = λ _ r e. fact 𝓤 (Said (a .0) (a .1 .0) (a .1 .1 .0) (a .1 .1 .1 .0)
         (a .1 .1 .1 .1 .0) (now (a .1 .1 .1 .1 .1 .0)) (now (a .1 .1 .1 .1 .1 .1 .0)) (now (a .1 .1 .1 .1 .1 .1 .1 .0)) (now (a .1 .1 .1 .1 .1 .1 .1 .1 .0))
-        (now (a .1 .1 .1 .1 .1 .1 .1 .1 .1 .0)) r (now (e .1 .1 .1 .1 .1 .1 .1 .1 .1 .0)));
+        r (now (e .1 .1 .1 .1 .1 .1 .1 .1 .0)));
   }
 
   abbrev pub Print : {M : Type 1} (𝓤 : URA M) (H : Heap 𝓤) (A′ : Atoms 𝓤) → Contract 𝓤
   Print 𝓤 H A′ = tripleOf 𝓤 H A′ (print-ended .signature) (closing 𝓤 H A′ print-ended (print-clauses 𝓤))
 
-  module _ (l : Rec L) (a : Rec A) (b : Rec B) (x : Rec X) (y : Rec Y) (l₁ l₂ l₃ l₄ l₅ : Loan u8) (q : L .Denot) (r₁ : A .Denot) (r₂ : B .Denot)
+  module _ (l : Rec L) (a : Rec A) (b : Rec B) (x : Rec X) (y : Rec Y) (l₁ l₂ l₃ l₄ : Loan u8) (q : L .Denot) (r₁ : A .Denot) (r₂ : B .Denot)
       (v₁ : X .Denot) (v₂ : Y .Denot) where
     abbrev print-said : List ℕ → P .Denot → Type 0
-    print-said z r = Said q r₁ r₂ v₁ v₂ (list l₁) (list l₂) (list l₃) (list l₄) (list l₅) r z
+    print-said z r = Said q r₁ r₂ v₁ v₂ (list l₁) (list l₂) (list l₃) (list l₄) r z
 
-    abbrev print-lfts : Lfts 5
-    print-lfts = (l₁ .κ, (l₂ .κ, (l₃ .κ, (l₄ .κ, (l₅ .κ, tt)))))
+    abbrev print-lfts : Lfts 4
+    print-lfts = (l₁ .κ, (l₂ .κ, (l₃ .κ, (l₄ .κ, tt))))
 
     abbrev print-args : Args (print-ended .signature) print-lfts
-    print-args = (q, (r₁, (r₂, (v₁, (v₂, (l₁ .s, (l₂ .s, (l₃ .s, (l₄ .s, (l₅ .s, tt))))))))))
+    print-args = (q, (r₁, (r₂, (v₁, (v₂, (l₁ .s, (l₂ .s, (l₃ .s, (l₄ .s, tt)))))))))
 
-    abbrev print-slices : List Val × (List Val × (List Val × (List Val × (List Val × Unit {0}))))
-    print-slices = (valOf l₁ ∷ [], (valOf l₂ ∷ [], (valOf l₃ ∷ [], (valOf l₄ ∷ [], (valOf l₅ ∷ [], tt)))))
+    abbrev print-slices : List Val × (List Val × (List Val × (List Val × Unit {0})))
+    print-slices = (valOf l₁ ∷ [], (valOf l₂ ∷ [], (valOf l₃ ∷ [], (valOf l₄ ∷ [], tt))))
 
     abbrev print-vals : Vals (print-ended .signature) print-lfts
     print-vals = (l .val q ∷ [], (a .val r₁ ∷ [], (b .val r₂ ∷ [], (x .val v₁ ∷ [], (y .val v₂ ∷ [], print-slices)))))
 
     abbrev print-passed : List Val
-    print-passed = l .val q ∷ a .val r₁ ∷ b .val r₂ ∷ x .val v₁ ∷ y .val v₂ ∷ valOf l₁ ∷ valOf l₂ ∷ valOf l₃ ∷ valOf l₄ ∷ valOf l₅ ∷ []
+    print-passed = l .val q ∷ a .val r₁ ∷ b .val r₂ ∷ x .val v₁ ∷ y .val v₂ ∷ valOf l₁ ∷ valOf l₂ ∷ valOf l₃ ∷ valOf l₄ ∷ []
 
     module _ {M : Type 1} (𝓤 : URA M) (H : Heap 𝓤) (A′ : Atoms 𝓤) where
       abbrev print-tokens : SProp 𝓤
       print-tokens = sep 𝓤 (A′ .lft (l₁ .κ) (l₁ .q)) (sep 𝓤 (A′ .lft (l₂ .κ) (l₂ .q)) (sep 𝓤 (A′ .lft (l₃ .κ) (l₃ .q)) (sep 𝓤 (A′ .lft (l₄ .κ) (l₄ .q))
-          (sep 𝓤 (A′ .lft (l₅ .κ) (l₅ .q)) (emp 𝓤)))))
+          (emp 𝓤))))
 
       abbrev Given-print : SProp 𝓤
-      Given-print = sep 𝓤 print-tokens (sep 𝓤 (sem 𝓤 H A′ (Shr l₁)) (sep 𝓤 (sem 𝓤 H A′ (Shr l₂)) (sep 𝓤 (sem 𝓤 H A′ (Shr l₃)) (sep 𝓤 (sem 𝓤 H A′ (Shr l₄))
-          (sem 𝓤 H A′ (Mut l₅))))))
+      Given-print = sep 𝓤 print-tokens (sep 𝓤 (sem 𝓤 H A′ (Shr l₁)) (sep 𝓤 (sem 𝓤 H A′ (Shr l₂)) (sep 𝓤 (sem 𝓤 H A′ (Shr l₃))
+          (sem 𝓤 H A′ (Mut l₄)))))
 
       abbrev print-last : List ℕ → SProp 𝓤
-      print-last z = sem 𝓤 H A′ (endsAs u8 (l₅ .s .name) (list l₅) z)
+      print-last z = sem 𝓤 H A′ (endsAs u8 (l₄ .s .name) (list l₄) z)
 
       abbrev print-after : Val → SProp 𝓤
       print-after w = H .⇛ (ex 𝓤 (λ (z : List ℕ). sep 𝓤 (sep 𝓤 print-tokens (sep 𝓤 (print-last z) (emp 𝓤))) (fact 𝓤 (Got P (print-said z) w))))
@@ -381,38 +380,38 @@ module _ (L A B X Y P : RattleType) (Said : L .Denot → A .Denot → B .Denot �
           → Is A r₁ (a .val r₁ ∷ []) → Is B r₂ (b .val r₂ ∷ []) → Is X v₁ (x .val v₁ ∷ []) → Is Y v₂ (y .val v₂ ∷ [])
           → ent 𝓤 Given-print (C′ f print-passed print-after)
       print-entered W C′ fm known q-is r₁-is r₂-is v₁-is v₂-is = calls-given 𝓤 H A′ W C′ fm (Print 𝓤 H A′) known
-          ((print-lfts, (l₁ .q, (l₂ .q, (l₃ .q, (l₄ .q, (l₅ .q, tt))))), tt, print-args, print-vals), tt) Given-print (emp 𝓤) _
-          (qed W ((raw print-tokens ⊛ (‵ (Shr l₁) ⊛ (‵ (Shr l₂) ⊛ (‵ (Shr l₃) ⊛ (‵ (Shr l₄) ⊛ ‵ (Mut l₅)))))) ∷ []) ∵ split ! $ move ! (1 ∷ []) $ split ! $
-          move ! (1 ∷ []) $ split ! $ move ! (1 ∷ []) $ split ! $ move ! (1 ∷ []) $ split ! $ move ! (1 ∷ []) $ nothing ! $ move ! (1 ∷ []) $ fjoin ! $
-          move ! (1 ∷ []) $ fjoin ! $ move ! (1 ∷ []) $ fjoin ! $ move ! (1 ∷ []) $ fjoin ! $ move ! (1 ∷ []) $ fjoin ! $ owned ! Y (Is Y)
+          ((print-lfts, (l₁ .q, (l₂ .q, (l₃ .q, (l₄ .q, tt)))), tt, print-args, print-vals), tt) Given-print (emp 𝓤) _
+          (qed W ((raw print-tokens ⊛ (‵ (Shr l₁) ⊛ (‵ (Shr l₂) ⊛ (‵ (Shr l₃) ⊛ ‵ (Mut l₄))))) ∷ []) ∵ split ! $ move ! (1 ∷ []) $ split ! $
+          move ! (1 ∷ []) $ split ! $ move ! (1 ∷ []) $ split ! $ move ! (1 ∷ []) $ nothing ! $ move ! (1 ∷ []) $ fjoin ! $
+          move ! (1 ∷ []) $ fjoin ! $ move ! (1 ∷ []) $ fjoin ! $ move ! (1 ∷ []) $ fjoin ! $ owned ! Y (Is Y)
           (y .makes 𝓤 H A′ W) v₂ _ v₂-is $ fjoin ! $ owned ! X (Is X) (x .makes 𝓤 H A′ W) v₁ _ v₁-is $ fjoin ! $ owned ! B (Is B)
           (b .makes 𝓤 H A′ W) r₂ _ r₂-is $ fjoin ! $ owned ! A (Is A) (a .makes 𝓤 H A′ W) r₁ _ r₁-is $ fjoin ! $ owned ! L (Is L)
           (l .makes 𝓤 H A′ W) q _ q-is $ fjoin ! $ move ! (1 ∷ []) $ join ! $ nothing ! $ move ! (1 ∷ []) $ join ! $ frame ! $ done !)
           (λ w. gives 𝓤 H A′ W P print-tokens (emp 𝓤) print-last print-said (ensured 𝓤 H A′ print-ended (print-clauses 𝓤) print-lfts print-args tt) w
           (λ r. qed W (some (λ (ws : Lasts print-ended print-lfts print-args). ‵ (lasts print-ended print-lfts print-args ws) ⊛ raw (fact 𝓤 (print-said
-          (ws .1 .1 .1 .1 .1 .1 .1 .1 .1 .0) r))) ∷ []) ∵
+          (ws .1 .1 .1 .1 .1 .1 .1 .1 .0) r))) ∷ []) ∵
           pick ! (λ ws. split ! $ fsplit ! $ drop ! $ fsplit ! $ drop ! $ fsplit ! $ drop ! $ fsplit ! $ drop ! $ fsplit ! $ drop ! $ fsplit ! $ drop ! $
-          fsplit ! $ drop ! $ fsplit ! $ drop ! $ fsplit ! $ drop ! $ fsplit ! $ move ! (0 ∷ 2 ∷ []) $
-          show ! (λ (z : List ℕ). sep 𝓤 (print-last z) (fact 𝓤 (print-said z r))) (ws .1 .1 .1 .1 .1 .1 .1 .1 .1 .0) $ frame ! $ keep ! (0 ∷ []) $ done !)))
+          fsplit ! $ drop ! $ fsplit ! $ drop ! $ fsplit ! $ move ! (0 ∷ 2 ∷ []) $
+          show ! (λ (z : List ℕ). sep 𝓤 (print-last z) (fact 𝓤 (print-said z r))) (ws .1 .1 .1 .1 .1 .1 .1 .1 .0) $ frame ! $ keep ! (0 ∷ []) $ done !)))
 
     module _ {M : Type 1} {𝓤 : URA M} {H : Heap 𝓤} {A′ : Atoms 𝓤} {K : Type 0} {W : Given 𝓤 H A′} {Γ : List (Item 𝓤)}
         {E : Env 𝓤 H} {C′ : Calls 𝓤 H} {Λ : Loops 𝓤 H} {k : Kit.Post 𝓤 H} {f : Name} {d : Place′} {xs : List Operand} {rest : Body} where
       prints : K → FmC 𝓤 H (W .laws) C′ → Triple 𝓤 (C′ f) (Print 𝓤 H A′) → Is L q (l .val q ∷ []) → Is A r₁ (a .val r₁ ∷ []) → Is B r₂ (b .val r₂ ∷ [])
           → Is X v₁ (x .val v₁ ∷ []) → Is Y v₂ (y .val v₂ ∷ []) → Opds K W (raw (Given-print 𝓤 H A′) ∷ Γ) E xs print-passed
-          → ((w : Val) (z : List ℕ) → length z ≡ length (list l₅) → Got P (print-said z) w → Seq K W (‵ (Token l₁) ∷ ‵ (Token l₂) ∷ ‵ (Token l₃) ∷
-          ‵ (Token l₄) ∷ ‵ (Token l₅) ∷ ‵ (Left l₅ z) ∷ Γ) (lands C′ Λ E d w rest k))
-          → Seq K W (‵ (Token l₁) ∷ ‵ (Shr l₁) ∷ ‵ (Token l₂) ∷ ‵ (Shr l₂) ∷ ‵ (Token l₃) ∷ ‵ (Shr l₃) ∷ ‵ (Token l₄) ∷ ‵ (Shr l₄) ∷ ‵ (Token l₅) ∷
-          ‵ (Mut l₅) ∷ Γ) (runs C′ Λ E (seq (call f xs d) rest) k)
+          → ((w : Val) (z : List ℕ) → length z ≡ length (list l₄) → Got P (print-said z) w → Seq K W (‵ (Token l₁) ∷ ‵ (Token l₂) ∷ ‵ (Token l₃) ∷
+          ‵ (Token l₄) ∷ ‵ (Left l₄ z) ∷ Γ) (lands C′ Λ E d w rest k))
+          → Seq K W (‵ (Token l₁) ∷ ‵ (Shr l₁) ∷ ‵ (Token l₂) ∷ ‵ (Shr l₂) ∷ ‵ (Token l₃) ∷ ‵ (Shr l₃) ∷ ‵ (Token l₄) ∷ ‵ (Mut l₄) ∷ Γ)
+          (runs C′ Λ E (seq (call f xs d) rest) k)
       prints t fm known q-is r₁-is r₂-is v₁-is v₂-is opds then =
-          move t (7 ∷ 9 ∷ []) $ join t $ move t (6 ∷ []) $ join t $ move t (4 ∷ []) $ join t $ move t (2 ∷ []) $ join t $ nothing t $ move t (6 ∷ []) $
-          join t $ move t (5 ∷ []) $ join t $ move t (4 ∷ []) $ join t $ move t (3 ∷ []) $ join t $ move t (2 ∷ []) $ join t $ join t $
+          move t (5 ∷ 7 ∷ []) $ join t $ move t (4 ∷ []) $ join t $ move t (2 ∷ []) $ join t $ nothing t $ move t (5 ∷ []) $
+          join t $ move t (4 ∷ []) $ join t $ move t (3 ∷ []) $ join t $ move t (2 ∷ []) $ join t $ join t $
           use1 W (raw (Given-print 𝓤 H A′)) (id⊢ 𝓤 _) $ calls-from t fm (raw (Given-print 𝓤 H A′)) print-passed (print-after 𝓤 H A′)
           (print-entered 𝓤 H A′ W C′ fm known q-is r₁-is r₂-is v₁-is v₂-is) opds (λ w.
-          use1 W (later (some (λ (z : List ℕ). ((‵ (Token l₁) ⊛ (‵ (Token l₂) ⊛ (‵ (Token l₃) ⊛ (‵ (Token l₄) ⊛ (‵ (Token l₅) ⊛ ‵ ftrue)))))
-          ⊛ (‵ (endsAs u8 (l₅ .s .name) (list l₅) z) ⊛ ‵ ftrue)) ⊛ raw (fact 𝓤 (Got P (print-said z) w))))) (id⊢ 𝓤 _) $ await t tt $ pick t (λ z.
+          use1 W (later (some (λ (z : List ℕ). ((‵ (Token l₁) ⊛ (‵ (Token l₂) ⊛ (‵ (Token l₃) ⊛ (‵ (Token l₄) ⊛ ‵ ftrue))))
+          ⊛ (‵ (endsAs u8 (l₄ .s .name) (list l₄) z) ⊛ ‵ ftrue)) ⊛ raw (fact 𝓤 (Got P (print-said z) w))))) (id⊢ 𝓤 _) $ await t tt $ pick t (λ z.
           split t $ move t (1 ∷ []) $ heard t (Got P (print-said z) w) (λ r. split t $ split t $ move t (1 ∷ []) $ split t $ move t (1 ∷ []) $ split t $
-          move t (1 ∷ []) $ split t $ move t (1 ∷ []) $ split t $ move t (1 ∷ []) $ drop t $ move t (5 ∷ []) $ split t $ fsplit t $ move t (1 ∷ []) $
-          feqL t (λ len₄. move t (1 ∷ []) $ drop t $ move t (5 ∷ 4 ∷ 3 ∷ 2 ∷ 1 ∷ []) $ then w z len₄ r))))
+          move t (1 ∷ []) $ split t $ move t (1 ∷ []) $ drop t $ move t (4 ∷ []) $ split t $ fsplit t $ move t (1 ∷ []) $
+          feqL t (λ len₄. move t (1 ∷ []) $ drop t $ move t (4 ∷ 3 ∷ 2 ∷ 1 ∷ []) $ then w z len₄ r))))
 
 module _ (P L : RattleType) (Said : P .Denot → List ℕ → List ℕ → L .Denot → List ℕ → List ℕ → Type 0) (p : Rec P) (l₁ l₂ : Loan u8) (y : P .Denot) where
   module _ {M : Type 1} {𝓤 : URA M} {H : Heap 𝓤} {A′ : Atoms 𝓤} {K : Type 0} {W : Given 𝓤 H A′} {Γ : List (Item 𝓤)}
@@ -455,50 +454,48 @@ module _ (N C L A : RattleType) (Said : Relation N C L A) (l : Rec L) (lN : Loan
         (λ w z same r. move t (11 ∷ []) $ drop t $ move t (10 ∷ 11 ∷ []) $ hides t tt l₄ room₄ ν₄ δ₄ $ move t (2 ∷ 3 ∷ 4 ∷ 5 ∷ 6 ∷ 7 ∷ 8 ∷ 9 ∷ 10 ∷
         11 ∷ []) $ then w z same r))
 
-module _ (N L B : RattleType) (Said : List (N .Denot) → List ℕ → List ℕ → L .Denot → B .Denot → List ℕ → Type 0) (l : Rec L) (lN : Loan N) (l₁ l₂ : Loan u8)
+module _ (N C L B : RattleType) (Said : List (N .Denot) → List (C .Denot) → L .Denot → B .Denot → Type 0) (l : Rec L) (lN : Loan N) (lC : Loan C)
     (y : L .Denot) where
   module _ {M : Type 1} {𝓤 : URA M} {H : Heap 𝓤} {A′ : Atoms 𝓤} {K : Type 0} {W : Given 𝓤 H A′} {Γ : List (Item 𝓤)}
       {E : Env 𝓤 H} {C′ : Calls 𝓤 H} {Λ : Loops 𝓤 H} {k : Kit.Post 𝓤 H} {f : Name} {d : Place′} {xs : List Operand} {rest : Body} where
-    reads-on : K → FmC 𝓤 H (W .laws) C′ → Triple 𝓤 (C′ f) (Go N L B Said 𝓤 H A′) → Is L y (l .val y ∷ []) → Room N (length (list lN))
-        → Room u8 (length (list l₁)) → Room u8 (length (list l₂))
-        → ((νN ν₁ ν₂ : ℕ) (δN δ₁ δ₂ : GName) → Opds K W (raw (Given-read N L B Said l (for lN νN δN) (for l₁ ν₁ δ₁) (for l₂ ν₂ δ₂) y 𝓤 H A′) ∷
-        ‵ (Shown l₂ ν₂) ∷ ‵ (Kept l₁ ν₁ δ₁) ∷ ‵ (Shown lN νN) ∷ Γ) E xs
-        (valOf lN ∷ valOf l₁ ∷ valOf l₂ ∷ l .val y ∷ []))
-        → ((w : Val) (z : List ℕ) → length z ≡ length (list l₁) → Got B (λ r. Said (list lN) (list l₁) (list l₂) y r z) w
-        → Seq K W (‵ (Token lN) ∷ ‵ (Mut lN) ∷ ‵ (Token (at l₁ z)) ∷ ‵ (Mut (at l₁ z)) ∷ ‵ (Token l₂) ∷ ‵ (Mut l₂) ∷ Γ) (lands C′ Λ E d w rest k))
-        → Seq K W (‵ (Token lN) ∷ ‵ (Mut lN) ∷ ‵ (Token l₁) ∷ ‵ (Mut l₁) ∷ ‵ (Token l₂) ∷ ‵ (Mut l₂) ∷ Γ) (runs C′ Λ E (seq (call f xs d) rest) k)
-    reads-on t fm known y-is roomN room₁ room₂ opds then =
-        shows t tt lN roomN (λ νN δN. move t (3 ∷ 4 ∷ []) $ lends t tt l₁ room₁ (λ ν₁ δ₁. move t (6 ∷ 7 ∷ []) $ shows t tt l₂ room₂ (λ ν₂ δ₂. move t (6 ∷ 7 ∷
-        3 ∷ 4 ∷ []) $ reads N L B Said l (for lN νN δN) (for l₁ ν₁ δ₁) (for l₂ ν₂ δ₂) y t fm known y-is (opds νN ν₁ ν₂ δN δ₁ δ₂) (λ w z same r. move t (3 ∷
-        4 ∷ []) $ hides t tt l₂ room₂ ν₂ δ₂ $ move t (3 ∷ 4 ∷ 5 ∷ []) $ back t tt l₁ room₁ ν₁ δ₁ z same $ move t (4 ∷ 5 ∷ []) $ hides t tt lN roomN νN δN $
-        then w z same r))))
+    reads-on : K → FmC 𝓤 H (W .laws) C′ → Triple 𝓤 (C′ f) (Go N C L B Said 𝓤 H A′) → Is L y (l .val y ∷ []) → Room N (length (list lN))
+        → Room C (length (list lC))
+        → ((νN νC : ℕ) (δN δC : GName) → Opds K W (raw (Given-read N C L B Said l (for lN νN δN) (for lC νC δC) y 𝓤 H A′) ∷
+        ‵ (Shown lC νC) ∷ ‵ (Shown lN νN) ∷ Γ) E xs (valOf lN ∷ valOf lC ∷ l .val y ∷ []))
+        → ((w : Val) → Got B (λ r. Said (list lN) (list lC) y r) w
+        → Seq K W (‵ (Token lN) ∷ ‵ (Mut lN) ∷ ‵ (Token lC) ∷ ‵ (Mut lC) ∷ Γ) (lands C′ Λ E d w rest k))
+        → Seq K W (‵ (Token lN) ∷ ‵ (Mut lN) ∷ ‵ (Token lC) ∷ ‵ (Mut lC) ∷ Γ) (runs C′ Λ E (seq (call f xs d) rest) k)
+    reads-on t fm known y-is roomN roomC opds then =
+        shows t tt lN roomN (λ νN δN. move t (3 ∷ 4 ∷ []) $ shows t tt lC roomC (λ νC δC. move t (3 ∷ 4 ∷ []) $
+        reads N C L B Said l (for lN νN δN) (for lC νC δC) y t fm known y-is (opds νN νC δN δC) (λ w r. move t (1 ∷ 2 ∷ []) $ hides t tt lC roomC νC δC $
+        move t (2 ∷ 3 ∷ []) $ hides t tt lN roomN νN δN $ then w r)))
 
 module _ (L A B X Y P : RattleType)
-    (Said : L .Denot → A .Denot → B .Denot → X .Denot → Y .Denot → List ℕ → List ℕ → List ℕ → List ℕ → List ℕ → P .Denot → List ℕ → Type 0)
-    (l : Rec L) (a : Rec A) (b : Rec B) (x : Rec X) (y : Rec Y) (l₁ l₂ l₃ l₄ l₅ : Loan u8)
+    (Said : L .Denot → A .Denot → B .Denot → X .Denot → Y .Denot → List ℕ → List ℕ → List ℕ → List ℕ → P .Denot → List ℕ → Type 0)
+    (l : Rec L) (a : Rec A) (b : Rec B) (x : Rec X) (y : Rec Y) (l₁ l₂ l₃ l₄ : Loan u8)
     (q : L .Denot) (r₁ : A .Denot) (r₂ : B .Denot) (v₁ : X .Denot) (v₂ : Y .Denot) where
   module _ {M : Type 1} {𝓤 : URA M} {H : Heap 𝓤} {A′ : Atoms 𝓤} {K : Type 0} {W : Given 𝓤 H A′} {Γ : List (Item 𝓤)}
       {E : Env 𝓤 H} {C′ : Calls 𝓤 H} {Λ : Loops 𝓤 H} {k : Kit.Post 𝓤 H} {f : Name} {d : Place′} {xs : List Operand} {rest : Body} where
     prints-on : K → FmC 𝓤 H (W .laws) C′ → Triple 𝓤 (C′ f) (Print L A B X Y P Said 𝓤 H A′) → Is L q (l .val q ∷ []) → Is A r₁ (a .val r₁ ∷ [])
         → Is B r₂ (b .val r₂ ∷ [])
         → Is X v₁ (x .val v₁ ∷ []) → Is Y v₂ (y .val v₂ ∷ []) → Room u8 (length (list l₁)) → Room u8 (length (list l₂)) → Room u8 (length (list l₃))
-        → Room u8 (length (list l₄)) → Room u8 (length (list l₅))
-        → ((ν₁ ν₂ ν₃ ν₄ ν₅ : ℕ) (δ₁ δ₂ δ₃ δ₄ δ₅ : GName) → Opds K W
-        (raw (Given-print L A B X Y P Said l a b x y (for l₁ ν₁ δ₁) (for l₂ ν₂ δ₂) (for l₃ ν₃ δ₃) (for l₄ ν₄ δ₄) (for l₅ ν₅ δ₅) q r₁ r₂ v₁ v₂ 𝓤 H A′) ∷
-        ‵ (Kept l₅ ν₅ δ₅) ∷ ‵ (Shown l₄ ν₄) ∷ ‵ (Shown l₃ ν₃) ∷ ‵ (Shown l₂ ν₂) ∷ ‵ (Shown l₁ ν₁) ∷ Γ) E xs
-        (l .val q ∷ a .val r₁ ∷ b .val r₂ ∷ x .val v₁ ∷ y .val v₂ ∷ valOf l₁ ∷ valOf l₂ ∷ valOf l₃ ∷ valOf l₄ ∷ valOf l₅ ∷ []))
-        → ((w : Val) (z : List ℕ) → length z ≡ length (list l₅) → Got P (λ r. Said q r₁ r₂ v₁ v₂ (list l₁) (list l₂) (list l₃) (list l₄) (list l₅) r z) w
-        → Seq K W (‵ (Token l₁) ∷ ‵ (Mut l₁) ∷ ‵ (Token l₂) ∷ ‵ (Mut l₂) ∷ ‵ (Token l₃) ∷ ‵ (Mut l₃) ∷ ‵ (Token l₄) ∷ ‵ (Mut l₄) ∷ ‵ (Token (at l₅ z)) ∷
-        ‵ (Mut (at l₅ z)) ∷ Γ) (lands C′ Λ E d w rest k))
-        → Seq K W (‵ (Token l₁) ∷ ‵ (Mut l₁) ∷ ‵ (Token l₂) ∷ ‵ (Mut l₂) ∷ ‵ (Token l₃) ∷ ‵ (Mut l₃) ∷ ‵ (Token l₄) ∷ ‵ (Mut l₄) ∷ ‵ (Token l₅) ∷
-        ‵ (Mut l₅) ∷ Γ) (runs C′ Λ E (seq (call f xs d) rest) k)
-    prints-on t fm known q-is r₁-is r₂-is v₁-is v₂-is room₁ room₂ room₃ room₄ room₅ opds then =
+        → Room u8 (length (list l₄))
+        → ((ν₁ ν₂ ν₃ ν₄ : ℕ) (δ₁ δ₂ δ₃ δ₄ : GName) → Opds K W
+        (raw (Given-print L A B X Y P Said l a b x y (for l₁ ν₁ δ₁) (for l₂ ν₂ δ₂) (for l₃ ν₃ δ₃) (for l₄ ν₄ δ₄) q r₁ r₂ v₁ v₂ 𝓤 H A′) ∷
+        ‵ (Kept l₄ ν₄ δ₄) ∷ ‵ (Shown l₃ ν₃) ∷ ‵ (Shown l₂ ν₂) ∷ ‵ (Shown l₁ ν₁) ∷ Γ) E xs
+        (l .val q ∷ a .val r₁ ∷ b .val r₂ ∷ x .val v₁ ∷ y .val v₂ ∷ valOf l₁ ∷ valOf l₂ ∷ valOf l₃ ∷ valOf l₄ ∷ []))
+        → ((w : Val) (z : List ℕ) → length z ≡ length (list l₄) → Got P (λ r. Said q r₁ r₂ v₁ v₂ (list l₁) (list l₂) (list l₃) (list l₄) r z) w
+        → Seq K W (‵ (Token l₁) ∷ ‵ (Mut l₁) ∷ ‵ (Token l₂) ∷ ‵ (Mut l₂) ∷ ‵ (Token l₃) ∷ ‵ (Mut l₃) ∷ ‵ (Token (at l₄ z)) ∷ ‵ (Mut (at l₄ z)) ∷ Γ)
+        (lands C′ Λ E d w rest k))
+        → Seq K W (‵ (Token l₁) ∷ ‵ (Mut l₁) ∷ ‵ (Token l₂) ∷ ‵ (Mut l₂) ∷ ‵ (Token l₃) ∷ ‵ (Mut l₃) ∷ ‵ (Token l₄) ∷ ‵ (Mut l₄) ∷ Γ)
+        (runs C′ Λ E (seq (call f xs d) rest) k)
+    prints-on t fm known q-is r₁-is r₂-is v₁-is v₂-is room₁ room₂ room₃ room₄ opds then =
         shows t tt l₁ room₁ (λ ν₁ δ₁. move t (3 ∷ 4 ∷ []) $ shows t tt l₂ room₂ (λ ν₂ δ₂. move t (6 ∷ 7 ∷ []) $ shows t tt l₃ room₃ (λ ν₃ δ₃. move t (9 ∷
-        10 ∷ []) $ shows t tt l₄ room₄ (λ ν₄ δ₄. move t (12 ∷ 13 ∷ []) $ lends t tt l₅ room₅ (λ ν₅ δ₅. move t (12 ∷ 13 ∷ 9 ∷ 10 ∷ 6 ∷ 7 ∷ 3 ∷ 4 ∷ []) $
-        prints L A B X Y P Said l a b x y (for l₁ ν₁ δ₁) (for l₂ ν₂ δ₂) (for l₃ ν₃ δ₃) (for l₄ ν₄ δ₄) (for l₅ ν₅ δ₅) q r₁ r₂ v₁ v₂ t fm known q-is r₁-is
-        r₂-is v₁-is v₂-is (opds ν₁ ν₂ ν₃ ν₄ ν₅ δ₁ δ₂ δ₃ δ₄ δ₅) (λ w z same r. move t (4 ∷ 5 ∷ 6 ∷ []) $ back t tt l₅ room₅ ν₅ δ₅ z same $ move t (5 ∷
-        6 ∷ []) $ hides t tt l₄ room₄ ν₄ δ₄ $ move t (6 ∷ 7 ∷ []) $ hides t tt l₃ room₃ ν₃ δ₃ $ move t (7 ∷ 8 ∷ []) $ hides t tt l₂ room₂ ν₂ δ₂ $ move t (8 ∷
-        9 ∷ []) $ hides t tt l₁ room₁ ν₁ δ₁ $ then w z same r))))))
+        10 ∷ []) $ lends t tt l₄ room₄ (λ ν₄ δ₄. move t (9 ∷ 10 ∷ 6 ∷ 7 ∷ 3 ∷ 4 ∷ []) $
+        prints L A B X Y P Said l a b x y (for l₁ ν₁ δ₁) (for l₂ ν₂ δ₂) (for l₃ ν₃ δ₃) (for l₄ ν₄ δ₄) q r₁ r₂ v₁ v₂ t fm known q-is r₁-is
+        r₂-is v₁-is v₂-is (opds ν₁ ν₂ ν₃ ν₄ δ₁ δ₂ δ₃ δ₄) (λ w z same r. move t (3 ∷ 4 ∷ 5 ∷ []) $ back t tt l₄ room₄ ν₄ δ₄ z same $ move t (4 ∷
+        5 ∷ []) $ hides t tt l₃ room₃ ν₃ δ₃ $ move t (5 ∷ 6 ∷ []) $ hides t tt l₂ room₂ ν₂ δ₂ $ move t (6 ∷
+        7 ∷ []) $ hides t tt l₁ room₁ ν₁ δ₁ $ then w z same r)))))
 
 -- ---- the function
 
@@ -514,7 +511,6 @@ record Now (N C P : RattleType) : Type 0 where
   spare : List ℕ
   differences : List ℕ
   value : List ℕ
-  shown : List ℕ
   buffer : List ℕ
   out : List ℕ
   ns : List (N .Denot)
@@ -526,7 +522,6 @@ record Alike (N C P : RattleType) (u v : Now N C P) : Type 0 where
   spare : length (u .spare) ≡ length (v .spare)
   differences : length (u .differences) ≡ length (v .differences)
   value : length (u .value) ≡ length (v .value)
-  shown : length (u .shown) ≡ length (v .shown)
   buffer : length (u .buffer) ≡ length (v .buffer)
   out : length (u .out) ≡ length (v .out)
   ns : length (u .ns) ≡ length (v .ns)
@@ -548,93 +543,88 @@ module _ (N C P L A B X Y : RattleType) (FN : Table N) (FC : Table C) (p : Rec P
   module _ (#goes-on #next #call #read #see #take #print : Name) where
     abbrev played : Body
     played =
-        (seq (assign (place 21 []) (addrOf (place 6 (field 0 ∷ deref (tyInt w8) ∷ []))))
-        (seq (assign (place 22 []) (aggregate (copy (place 21 []) ∷ copy (place 6 (field 1 ∷ [])) ∷ [])))
-        (seq (assign (place 23 []) (addrOf (place 4 (field 0 ∷ deref (tyInt w8) ∷ []))))
-        (seq (assign (place 24 []) (aggregate (copy (place 23 []) ∷ copy (place 4 (field 1 ∷ [])) ∷ [])))
-        (seq (call #next (copy (place 13 []) ∷ copy (place 22 []) ∷ copy (place 24 []) ∷ []) (place 14 []))
-        (seq (assign (place 25 []) (addrOf (place 11 [])))
-        (seq (assign (place 26 []) (aggregate (copy (place 25 []) ∷ number (FN .n) ∷ [])))
-        (seq (assign (place 27 []) (addrOf (place 12 [])))
-        (seq (assign (place 28 []) (aggregate (copy (place 27 []) ∷ number (FC .n) ∷ [])))
-        (seq (assign (place 29 []) (addrOf (place 1 (field 0 ∷ deref (tyInt w8) ∷ []))))
-        (seq (assign (place 30 []) (aggregate (copy (place 29 []) ∷ copy (place 1 (field 1 ∷ [])) ∷ [])))
-        (seq (assign (place 31 []) (addrOf (place 2 (field 0 ∷ deref (tyInt w8) ∷ []))))
-        (seq (assign (place 32 []) (aggregate (copy (place 31 []) ∷ copy (place 2 (field 1 ∷ [])) ∷ [])))
-        (seq (assign (place 33 []) (addrOf (place 3 (field 0 ∷ deref (tyInt w8) ∷ []))))
-        (seq (assign (place 34 []) (aggregate (copy (place 33 []) ∷ copy (place 3 (field 1 ∷ [])) ∷ [])))
-        (seq (assign (place 35 []) (addrOf (place 4 (field 0 ∷ deref (tyInt w8) ∷ []))))
-        (seq (assign (place 36 []) (aggregate (copy (place 35 []) ∷ copy (place 4 (field 1 ∷ [])) ∷ [])))
-        (seq (call #call (copy (place 26 []) ∷ copy (place 28 []) ∷ copy (place 30 []) ∷ copy (place 32 []) ∷ copy (place 34 []) ∷ copy (place 36 []) ∷
-        copy (place 14 []) ∷ []) (place 15 []))
-        (seq (assign (place 37 []) (addrOf (place 11 [])))
-        (seq (assign (place 38 []) (aggregate (copy (place 37 []) ∷ number (FN .n) ∷ [])))
-        (seq (assign (place 39 []) (addrOf (place 5 (field 0 ∷ deref (tyInt w8) ∷ []))))
-        (seq (assign (place 40 []) (aggregate (copy (place 39 []) ∷ copy (place 5 (field 1 ∷ [])) ∷ [])))
-        (seq (assign (place 41 []) (addrOf (place 1 (field 0 ∷ deref (tyInt w8) ∷ []))))
-        (seq (assign (place 42 []) (aggregate (copy (place 41 []) ∷ copy (place 1 (field 1 ∷ [])) ∷ [])))
-        (seq (call #read (copy (place 38 []) ∷ copy (place 40 []) ∷ copy (place 42 []) ∷ copy (place 14 []) ∷ []) (place 16 []))
-        (seq (assign (place 43 []) (addrOf (place 11 [])))
-        (seq (assign (place 44 []) (aggregate (copy (place 43 []) ∷ number (FN .n) ∷ [])))
-        (seq (call #see (copy (place 44 []) ∷ copy (place 14 []) ∷ []) (place 17 []))
-        (seq (assign (place 45 []) (addrOf (place 12 [])))
-        (seq (assign (place 46 []) (aggregate (copy (place 45 []) ∷ number (FC .n) ∷ [])))
-        (seq (call #take (copy (place 46 []) ∷ copy (place 14 []) ∷ []) (place 18 []))
-        (seq (assign (place 47 []) (addrOf (place 1 (field 0 ∷ deref (tyInt w8) ∷ []))))
-        (seq (assign (place 48 []) (aggregate (copy (place 47 []) ∷ copy (place 1 (field 1 ∷ [])) ∷ [])))
-        (seq (assign (place 49 []) (addrOf (place 2 (field 0 ∷ deref (tyInt w8) ∷ []))))
-        (seq (assign (place 50 []) (aggregate (copy (place 49 []) ∷ copy (place 2 (field 1 ∷ [])) ∷ [])))
-        (seq (assign (place 51 []) (addrOf (place 3 (field 0 ∷ deref (tyInt w8) ∷ []))))
-        (seq (assign (place 52 []) (aggregate (copy (place 51 []) ∷ copy (place 3 (field 1 ∷ [])) ∷ [])))
-        (seq (assign (place 53 []) (addrOf (place 5 (field 0 ∷ deref (tyInt w8) ∷ []))))
-        (seq (assign (place 54 []) (aggregate (copy (place 53 []) ∷ copy (place 5 (field 1 ∷ [])) ∷ [])))
-        (seq (assign (place 55 []) (addrOf (place 7 (field 0 ∷ deref (tyInt w8) ∷ []))))
-        (seq (assign (place 56 []) (aggregate (copy (place 55 []) ∷ copy (place 7 (field 1 ∷ [])) ∷ [])))
-        (seq (call #print (copy (place 14 []) ∷ copy (place 15 []) ∷ copy (place 16 []) ∷ copy (place 17 []) ∷ copy (place 18 []) ∷ copy (place 48 []) ∷
-        copy (place 50 []) ∷ copy (place 52 []) ∷ copy (place 54 []) ∷ copy (place 56 []) ∷ []) (place 19 []))
-        (assign (place 13 []) (rvOpd (copy (place 19 []))))))))))))))))))))))))))))))))))))))))))))))
+        (seq (assign (place 20 []) (addrOf (place 5 (field 0 ∷ deref (tyInt w8) ∷ []))))
+        (seq (assign (place 21 []) (aggregate (copy (place 20 []) ∷ copy (place 5 (field 1 ∷ [])) ∷ [])))
+        (seq (assign (place 22 []) (addrOf (place 4 (field 0 ∷ deref (tyInt w8) ∷ []))))
+        (seq (assign (place 23 []) (aggregate (copy (place 22 []) ∷ copy (place 4 (field 1 ∷ [])) ∷ [])))
+        (seq (call #next (copy (place 12 []) ∷ copy (place 21 []) ∷ copy (place 23 []) ∷ []) (place 13 []))
+        (seq (assign (place 24 []) (addrOf (place 10 [])))
+        (seq (assign (place 25 []) (aggregate (copy (place 24 []) ∷ number (FN .n) ∷ [])))
+        (seq (assign (place 26 []) (addrOf (place 11 [])))
+        (seq (assign (place 27 []) (aggregate (copy (place 26 []) ∷ number (FC .n) ∷ [])))
+        (seq (assign (place 28 []) (addrOf (place 1 (field 0 ∷ deref (tyInt w8) ∷ []))))
+        (seq (assign (place 29 []) (aggregate (copy (place 28 []) ∷ copy (place 1 (field 1 ∷ [])) ∷ [])))
+        (seq (assign (place 30 []) (addrOf (place 2 (field 0 ∷ deref (tyInt w8) ∷ []))))
+        (seq (assign (place 31 []) (aggregate (copy (place 30 []) ∷ copy (place 2 (field 1 ∷ [])) ∷ [])))
+        (seq (assign (place 32 []) (addrOf (place 3 (field 0 ∷ deref (tyInt w8) ∷ []))))
+        (seq (assign (place 33 []) (aggregate (copy (place 32 []) ∷ copy (place 3 (field 1 ∷ [])) ∷ [])))
+        (seq (assign (place 34 []) (addrOf (place 4 (field 0 ∷ deref (tyInt w8) ∷ []))))
+        (seq (assign (place 35 []) (aggregate (copy (place 34 []) ∷ copy (place 4 (field 1 ∷ [])) ∷ [])))
+        (seq (call #call (copy (place 25 []) ∷ copy (place 27 []) ∷ copy (place 29 []) ∷ copy (place 31 []) ∷ copy (place 33 []) ∷ copy (place 35 []) ∷ copy
+        (place 13 []) ∷ []) (place 14 []))
+        (seq (assign (place 36 []) (addrOf (place 10 [])))
+        (seq (assign (place 37 []) (aggregate (copy (place 36 []) ∷ number (FN .n) ∷ [])))
+        (seq (assign (place 38 []) (addrOf (place 11 [])))
+        (seq (assign (place 39 []) (aggregate (copy (place 38 []) ∷ number (FC .n) ∷ [])))
+        (seq (call #read (copy (place 37 []) ∷ copy (place 39 []) ∷ copy (place 13 []) ∷ []) (place 15 []))
+        (seq (assign (place 40 []) (addrOf (place 10 [])))
+        (seq (assign (place 41 []) (aggregate (copy (place 40 []) ∷ number (FN .n) ∷ [])))
+        (seq (call #see (copy (place 41 []) ∷ copy (place 13 []) ∷ []) (place 16 []))
+        (seq (assign (place 42 []) (addrOf (place 11 [])))
+        (seq (assign (place 43 []) (aggregate (copy (place 42 []) ∷ number (FC .n) ∷ [])))
+        (seq (call #take (copy (place 43 []) ∷ copy (place 13 []) ∷ []) (place 17 []))
+        (seq (assign (place 44 []) (addrOf (place 1 (field 0 ∷ deref (tyInt w8) ∷ []))))
+        (seq (assign (place 45 []) (aggregate (copy (place 44 []) ∷ copy (place 1 (field 1 ∷ [])) ∷ [])))
+        (seq (assign (place 46 []) (addrOf (place 2 (field 0 ∷ deref (tyInt w8) ∷ []))))
+        (seq (assign (place 47 []) (aggregate (copy (place 46 []) ∷ copy (place 2 (field 1 ∷ [])) ∷ [])))
+        (seq (assign (place 48 []) (addrOf (place 3 (field 0 ∷ deref (tyInt w8) ∷ []))))
+        (seq (assign (place 49 []) (aggregate (copy (place 48 []) ∷ copy (place 3 (field 1 ∷ [])) ∷ [])))
+        (seq (assign (place 50 []) (addrOf (place 6 (field 0 ∷ deref (tyInt w8) ∷ []))))
+        (seq (assign (place 51 []) (aggregate (copy (place 50 []) ∷ copy (place 6 (field 1 ∷ [])) ∷ [])))
+        (seq (call #print (copy (place 13 []) ∷ copy (place 14 []) ∷ copy (place 15 []) ∷ copy (place 16 []) ∷ copy (place 17 []) ∷ copy (place 45 []) ∷
+        copy (place 47 []) ∷ copy (place 49 []) ∷ copy (place 51 []) ∷ []) (place 18 []))
+        (assign (place 12 []) (rvOpd (copy (place 18 []))))))))))))))))))))))))))))))))))))))))))
 
     abbrev turn : Body
-    turn = seq (call #goes-on (copy (place 13 []) ∷ []) (place 20 [])) (seq (cond (copy (place 20 [])) skipᴹ (exit 1)) played)
+    turn = seq (call #goes-on (copy (place 12 []) ∷ []) (place 19 [])) (seq (cond (copy (place 19 [])) skipᴹ (exit 1)) played)
 
     abbrev rest : Body
-    rest = seq (assign (place 0 []) (rvOpd (copy (place 13 [])))) return
+    rest = seq (assign (place 0 []) (rvOpd (copy (place 12 [])))) return
 
     abbrev pub function : Fn
     function = record {
-      lifetimes = 7;
+      lifetimes = 6;
       outlives = [];
-      params = 10;
+      params = 9;
       locals = local (p .ty) valueLocal ∷ local (bytes (named 0) mut) valueLocal ∷ local (bytes (named 1) mut) valueLocal ∷
           local (bytes (named 2) mut) valueLocal ∷ local (bytes (named 3) mut) valueLocal ∷ local (bytes (named 4) mut) valueLocal ∷
-          local (bytes (named 5) mut) valueLocal ∷ local (bytes (named 6) mut) valueLocal ∷ local (FN .r .ty) valueLocal ∷ local (FC .r .ty) valueLocal ∷
-          local (p .ty) valueLocal ∷ local (arrayTy N FN) memorySlot ∷ local (arrayTy C FC) memorySlot ∷ local (p .ty) valueLocal ∷
-          local (l .ty) valueLocal ∷ local (a .ty) valueLocal ∷ local (b .ty) valueLocal ∷ local (x .ty) valueLocal ∷ local (y .ty) valueLocal ∷
-          local (p .ty) valueLocal ∷ local tyBool valueLocal ∷ local (byte mut) valueLocal ∷ local (bytes erased mut) valueLocal ∷
-          local (byte mut) valueLocal ∷ local (bytes erased mut) valueLocal ∷ local (whole-of N FN mut) valueLocal ∷ local (records N mut) valueLocal ∷
+          local (bytes (named 5) mut) valueLocal ∷ local (FN .r .ty) valueLocal ∷ local (FC .r .ty) valueLocal ∷ local (p .ty) valueLocal ∷
+          local (arrayTy N FN) memorySlot ∷ local (arrayTy C FC) memorySlot ∷ local (p .ty) valueLocal ∷ local (l .ty) valueLocal ∷
+          local (a .ty) valueLocal ∷ local (b .ty) valueLocal ∷ local (x .ty) valueLocal ∷ local (y .ty) valueLocal ∷ local (p .ty) valueLocal ∷
+          local tyBool valueLocal ∷ local (byte mut) valueLocal ∷ local (bytes erased mut) valueLocal ∷ local (byte mut) valueLocal ∷
+          local (bytes erased mut) valueLocal ∷ local (whole-of N FN mut) valueLocal ∷ local (records N mut) valueLocal ∷
           local (whole-of C FC mut) valueLocal ∷ local (records C mut) valueLocal ∷ local (byte mut) valueLocal ∷ local (bytes erased mut) valueLocal ∷
           local (byte mut) valueLocal ∷ local (bytes erased mut) valueLocal ∷ local (byte mut) valueLocal ∷ local (bytes erased mut) valueLocal ∷
           local (byte imm) valueLocal ∷ local (bytes erased imm) valueLocal ∷ local (whole-of N FN imm) valueLocal ∷ local (records N imm) valueLocal ∷
-          local (byte mut) valueLocal ∷ local (bytes erased mut) valueLocal ∷ local (byte imm) valueLocal ∷ local (bytes erased imm) valueLocal ∷
-          local (whole-of N FN imm) valueLocal ∷ local (records N imm) valueLocal ∷ local (whole-of C FC imm) valueLocal ∷ local (records C imm) valueLocal ∷
-          local (byte imm) valueLocal ∷ local (bytes erased imm) valueLocal ∷ local (byte imm) valueLocal ∷ local (bytes erased imm) valueLocal ∷
+          local (whole-of C FC imm) valueLocal ∷ local (records C imm) valueLocal ∷ local (whole-of N FN imm) valueLocal ∷ local (records N imm) valueLocal ∷
+          local (whole-of C FC imm) valueLocal ∷ local (records C imm) valueLocal ∷ local (byte imm) valueLocal ∷ local (bytes erased imm) valueLocal ∷
           local (byte imm) valueLocal ∷ local (bytes erased imm) valueLocal ∷ local (byte imm) valueLocal ∷ local (bytes erased imm) valueLocal ∷
           local (byte mut) valueLocal ∷ local (bytes erased mut) valueLocal ∷ [];
-      body = seq (assign (place 11 []) (filled (FN .n) (copy (place 8 [])))) (seq (assign (place 12 []) (filled (FC .n) (copy (place 9 []))))
-          (seq (assign (place 13 []) (rvOpd (copy (place 10 [])))) (seq (block (loop turn)) rest)));
+      body = seq (assign (place 10 []) (filled (FN .n) (copy (place 7 [])))) (seq (assign (place 11 []) (filled (FC .n) (copy (place 8 []))))
+          (seq (assign (place 12 []) (rvOpd (copy (place 9 [])))) (seq (block (loop turn)) rest)));
     }
 
     module _ (leftP : P .Denot → ℕ) (leftL : L .Denot → ℕ) where
       abbrev play-ended : Ended
       play-ended = record {
         signature = record {
-          lifetimes = 7;
+          lifetimes = 6;
           outlives = [];
           params = mutSlice 0 tt (λ _. u8) ∷ mutSlice 1 tt (λ _. u8) ∷ mutSlice 2 tt (λ _. u8) ∷ mutSlice 3 tt (λ _. u8) ∷ mutSlice 4 tt (λ _. u8) ∷
-              mutSlice 5 tt (λ _. u8) ∷ mutSlice 6 tt (λ _. u8) ∷ plain (λ _. N) ∷ plain (λ _. C) ∷ plain (λ _. P) ∷ [];
+              mutSlice 5 tt (λ _. u8) ∷ plain (λ _. N) ∷ plain (λ _. C) ∷ plain (λ _. P) ∷ [];
           result = plain (λ _. P);
         };
-        kept = (yes, (yes, (yes, (yes, (yes, (yes, (yes, (yes, (yes, (yes, tt))))))))));
+        kept = (yes, (yes, (yes, (yes, (yes, (yes, (yes, (yes, (yes, tt)))))))));
       }
 
       abbrev play-clauses : {M : Type 1} (𝓤 : URA M) → Clauses 𝓤 play-ended
@@ -643,14 +633,14 @@ module _ (N C P L A B X Y : RattleType) (FN : Table N) (FC : Table C) (p : Rec P
       abbrev pub Played : {M : Type 1} (𝓤 : URA M) (H : Heap 𝓤) (A′ : Atoms 𝓤) → Contract 𝓤
       Played 𝓤 H A′ = tripleOf 𝓤 H A′ (play-ended .signature) (closing 𝓤 H A′ play-ended (play-clauses 𝓤))
 
-      abbrev stay : (j : ℕ) (ok : AllWithin 7 (j ∷ [])) → Stay {n = 7} (mutSliceOf (j ∷ []) ok (plain (λ _. u8))) yes
+      abbrev stay : (j : ℕ) (ok : AllWithin 6 (j ∷ [])) → Stay {n = 6} (mutSliceOf (j ∷ []) ok (plain (λ _. u8))) yes
       stay j ok = stay-slice (j ∷ []) ok (plain (λ _. u8))
 
-      abbrev own-stayed : Stays {n = 7} (plain (λ _. N) ∷ plain (λ _. C) ∷ plain (λ _. P) ∷ []) (yes, (yes, (yes, tt)))
+      abbrev own-stayed : Stays {n = 6} (plain (λ _. N) ∷ plain (λ _. C) ∷ plain (λ _. P) ∷ []) (yes, (yes, (yes, tt)))
       own-stayed = (stay-none (λ _. N) yes, (stay-none (λ _. C) yes, (stay-none (λ _. P) yes, tt)))
 
       abbrev stayed : Stays (play-ended .signature .params) (play-ended .kept)
-      stayed = (stay 0 tt, (stay 1 tt, (stay 2 tt, (stay 3 tt, (stay 4 tt, (stay 5 tt, (stay 6 tt, own-stayed)))))))
+      stayed = (stay 0 tt, (stay 1 tt, (stay 2 tt, (stay 3 tt, (stay 4 tt, (stay 5 tt, own-stayed))))))
 
       -- turns are counted down
       abbrev Fewer : Now N C P → Now N C P → Type 0
@@ -667,12 +657,12 @@ module _ (N C P L A B X Y : RattleType) (FN : Table N) (FC : Table C) (p : Rec P
 
       -- what the callees say: of `next` and of `print`, that a line is played; of the others, anything
       module _ (Nexts : P .Denot → List ℕ → List ℕ → L .Denot → List ℕ → List ℕ → Type 0) (Called : Relation N C L A)
-          (Read : List (N .Denot) → List ℕ → List ℕ → L .Denot → B .Denot → List ℕ → Type 0) (Seen : List (N .Denot) → L .Denot → X .Denot → Type 0)
+          (Read : List (N .Denot) → List (C .Denot) → L .Denot → B .Denot → Type 0) (Seen : List (N .Denot) → L .Denot → X .Denot → Type 0)
           (Taken : List (C .Denot) → L .Denot → Y .Denot → Type 0)
-          (Printed : L .Denot → A .Denot → B .Denot → X .Denot → Y .Denot → List ℕ → List ℕ → List ℕ → List ℕ → List ℕ → P .Denot → List ℕ → Type 0)
+          (Printed : L .Denot → A .Denot → B .Denot → X .Denot → Y .Denot → List ℕ → List ℕ → List ℕ → List ℕ → P .Denot → List ℕ → Type 0)
           (fewer : (w : P .Denot) (b₁ b₂ : List ℕ) (r : L .Denot) (c₁ c₂ : List ℕ) → Nexts w b₁ b₂ r c₁ c₂ → leftL r ≡ leftP w - 1)
-          (fewest : (w : L .Denot) (v₁ : A .Denot) (v₂ : B .Denot) (v₃ : X .Denot) (v₄ : Y .Denot) (b₁ b₂ b₃ b₄ b₅ : List ℕ) (r : P .Denot) (c₅ : List ℕ)
-          → Printed w v₁ v₂ v₃ v₄ b₁ b₂ b₃ b₄ b₅ r c₅ → leftP r ≤ leftL w) where
+          (fewest : (w : L .Denot) (v₁ : A .Denot) (v₂ : B .Denot) (v₃ : X .Denot) (v₄ : Y .Denot) (b₁ b₂ b₃ b₄ : List ℕ) (r : P .Denot) (c₄ : List ℕ)
+          → Printed w v₁ v₂ v₃ v₄ b₁ b₂ b₃ b₄ r c₄ → leftP r ≤ leftL w) where
         abbrev pub nodes-seen : Side
         nodes-seen = record { S = N; P = L; X = X; s = FN .r; p = l; x = x; Took = Seen }
 
@@ -682,30 +672,30 @@ module _ (N C P L A B X Y : RattleType) (FN : Table N) (FC : Table C) (p : Rec P
         module _ {M : Type 1} (𝓤 : URA M) (H : Heap 𝓤) (A′ : Atoms 𝓤) (W : Given 𝓤 H A′) where
           module _ (𝓣 : Tables 𝓤 H) (known-goes-on : Triple 𝓤 (𝓣 .C #goes-on) (Ask P bool GoesOn 𝓤 H A′)) (known-next : Triple 𝓤 (𝓣 .C #next)
               (Next P L Nexts 𝓤 H A′))
-              (known-call : Triple 𝓤 (𝓣 .C #call) (Entry N C L A Called 𝓤 H A′)) (known-read : Triple 𝓤 (𝓣 .C #read) (Go N L B Read 𝓤 H A′))
+              (known-call : Triple 𝓤 (𝓣 .C #call) (Entry N C L A Called 𝓤 H A′)) (known-read : Triple 𝓤 (𝓣 .C #read) (Go N C L B Read 𝓤 H A′))
               (known-see : Triple 𝓤 (𝓣 .C #see) (Take nodes-seen 𝓤 H A′)) (known-take : Triple 𝓤 (𝓣 .C #take) (Take clients-seen 𝓤 H A′))
               (known-print : Triple 𝓤 (𝓣 .C #print) (Print L A B X Y P Printed 𝓤 H A′))
-              (s₁ s₂ s₃ s₄ s₅ s₆ s₇ : Loan u8) (n₀ : N .Denot) (c₀ : C .Denot) (p₀ : P .Denot)
+              (s₁ s₂ s₃ s₄ s₅ s₆ : Loan u8) (n₀ : N .Denot) (c₀ : C .Denot) (p₀ : P .Denot)
               (n₀-is : Is N n₀ (FN .r .val n₀ ∷ [])) (c₀-is : Is C c₀ (FC .r .val c₀ ∷ [])) (p₀-is : Is P p₀ (p .val p₀ ∷ []))
               (room₁ : Room u8 (length (list s₁))) (room₂ : Room u8 (length (list s₂))) (room₃ : Room u8 (length (list s₃))) (room₄ : Room u8 (length
-              (list s₄))) (room₅ : Room u8 (length (list s₅))) (room₆ : Room u8 (length (list s₆))) (room₇ : Room u8 (length (list s₇))) where
+              (list s₄))) (room₅ : Room u8 (length (list s₅))) (room₆ : Room u8 (length (list s₆))) where
             abbrev passes : List Val
-            passes = valOf s₁ ∷ valOf s₂ ∷ valOf s₃ ∷ valOf s₄ ∷ valOf s₅ ∷ valOf s₆ ∷ valOf s₇ ∷ FN .r .val n₀ ∷ FC .r .val c₀ ∷ p .val p₀ ∷ []
+            passes = valOf s₁ ∷ valOf s₂ ∷ valOf s₃ ∷ valOf s₄ ∷ valOf s₅ ∷ valOf s₆ ∷ FN .r .val n₀ ∷ FC .r .val c₀ ∷ p .val p₀ ∷ []
 
-            abbrev lfts : Lfts 7
-            lfts = (s₁ .κ, (s₂ .κ, (s₃ .κ, (s₄ .κ, (s₅ .κ, (s₆ .κ, (s₇ .κ, tt)))))))
+            abbrev lfts : Lfts 6
+            lfts = (s₁ .κ, (s₂ .κ, (s₃ .κ, (s₄ .κ, (s₅ .κ, (s₆ .κ, tt))))))
 
-            abbrev shares-of : Shares 7
-            shares-of = (s₁ .q, (s₂ .q, (s₃ .q, (s₄ .q, (s₅ .q, (s₆ .q, (s₇ .q, tt)))))))
+            abbrev shares-of : Shares 6
+            shares-of = (s₁ .q, (s₂ .q, (s₃ .q, (s₄ .q, (s₅ .q, (s₆ .q, tt))))))
 
             abbrev args : Args (play-ended .signature) lfts
-            args = (s₁ .s, (s₂ .s, (s₃ .s, (s₄ .s, (s₅ .s, (s₆ .s, (s₇ .s, (n₀, (c₀, (p₀, tt))))))))))
+            args = (s₁ .s, (s₂ .s, (s₃ .s, (s₄ .s, (s₅ .s, (s₆ .s, (n₀, (c₀, (p₀, tt)))))))))
 
             abbrev own-vals : List Val × (List Val × (List Val × Unit {0}))
             own-vals = (FN .r .val n₀ ∷ [], (FC .r .val c₀ ∷ [], (p .val p₀ ∷ [], tt)))
 
             abbrev vals : Vals (play-ended .signature) lfts
-            vals = (valOf s₁ ∷ [], (valOf s₂ ∷ [], (valOf s₃ ∷ [], (valOf s₄ ∷ [], (valOf s₅ ∷ [], (valOf s₆ ∷ [], (valOf s₇ ∷ [], own-vals)))))))
+            vals = (valOf s₁ ∷ [], (valOf s₂ ∷ [], (valOf s₃ ∷ [], (valOf s₄ ∷ [], (valOf s₅ ∷ [], (valOf s₆ ∷ [], own-vals))))))
 
             abbrev bound : walkOf 𝓤 H A′ play-ended stayed (play-clauses 𝓤) .Ghost
             bound = ((lfts, shares-of, tt, args, vals), tt)
@@ -713,102 +703,87 @@ module _ (N C P L A B X Y : RattleType) (FN : Table N) (FC : Table C) (p : Rec P
             abbrev Post : Val → SProp 𝓤
             Post = walkOf 𝓤 H A′ play-ended stayed (play-clauses 𝓤) .post bound
 
-            abbrev to : P .Denot → List ℕ → List ℕ → List ℕ → List ℕ → List ℕ → List ℕ → List ℕ → List (N .Denot) → List (C .Denot) → Now N C P
-            to q z₀ z₁ z₂ z₃ z₄ z₅ z₆ z₇ z₈ = record {
-              p = q;
-              blocks = z₀;
-              spare = z₁;
-              differences = z₂;
-              value = z₃;
-              shown = z₄;
-              buffer = z₅;
-              out = z₆;
-              ns = z₇;
-              cs = z₈;
-            }
+            abbrev to : P .Denot → List ℕ → List ℕ → List ℕ → List ℕ → List ℕ → List ℕ → List (N .Denot) → List (C .Denot) → Now N C P
+            to q z₀ z₁ z₂ z₃ z₄ z₅ z₆ z₇ = record { p = q; blocks = z₀; spare = z₁; differences = z₂; value = z₃; buffer = z₄; out = z₅; ns = z₆; cs = z₇ }
 
             abbrev start : Now N C P
-            start = to p₀ (list s₁) (list s₂) (list s₃) (list s₄) (list s₅) (list s₆) (list s₇) (equal N FN n₀) (equal C FC c₀)
+            start = to p₀ (list s₁) (list s₂) (list s₃) (list s₄) (list s₅) (list s₆) (equal N FN n₀) (equal C FC c₀)
 
             exits : (u : Now N C P) → Alike N C P u start → Is P (u .p) (p .val (u .p) ∷ []) → leftP (u .p) ≡ 0
                 → ent 𝓤 (⋆ 𝓤 H A′ (‵ (Token (at s₁ (u .blocks))) ∷ ‵ (Mut (at s₁ (u .blocks))) ∷ ‵ (Token (at s₂ (u .spare))) ∷ ‵ (Mut (at s₂ (u .spare))) ∷
                 ‵ (Token (at s₃ (u .differences))) ∷ ‵ (Mut (at s₃ (u .differences))) ∷ ‵ (Token (at s₄ (u .value))) ∷ ‵ (Mut (at s₄ (u .value))) ∷
-                ‵ (Token (at s₅ (u .shown))) ∷ ‵ (Mut (at s₅ (u .shown))) ∷ ‵ (Token (at s₆ (u .buffer))) ∷ ‵ (Mut (at s₆ (u .buffer))) ∷
-                ‵ (Token (at s₇ (u .out))) ∷ ‵ (Mut (at s₇ (u .out))) ∷ [])) (Post (p .val (u .p)))
+                ‵ (Token (at s₅ (u .buffer))) ∷ ‵ (Mut (at s₅ (u .buffer))) ∷ ‵ (Token (at s₆ (u .out))) ∷ ‵ (Mut (at s₆ (u .out))) ∷ [])) (Post (p .val
+                (u .p)))
             exits u len p-is none =
                 qed W (‵ (Token (at s₁ (u .blocks))) ∷ ‵ (Mut (at s₁ (u .blocks))) ∷ ‵ (Token (at s₂ (u .spare))) ∷ ‵ (Mut (at s₂ (u .spare))) ∷
                 ‵ (Token (at s₃ (u .differences))) ∷ ‵ (Mut (at s₃ (u .differences))) ∷ ‵ (Token (at s₄ (u .value))) ∷ ‵ (Mut (at s₄ (u .value))) ∷
-                ‵ (Token (at s₅ (u .shown))) ∷ ‵ (Mut (at s₅ (u .shown))) ∷ ‵ (Token (at s₆ (u .buffer))) ∷ ‵ (Mut (at s₆ (u .buffer))) ∷
-                ‵ (Token (at s₇ (u .out))) ∷ ‵ (Mut (at s₇ (u .out))) ∷ []) ∵
+                ‵ (Token (at s₅ (u .buffer))) ∷ ‵ (Mut (at s₅ (u .buffer))) ∷ ‵ (Token (at s₆ (u .out))) ∷ ‵ (Mut (at s₆ (u .out))) ∷ []) ∵
                 rewrite ! 1 (λ (k : ℕ). ‵ (MutSlice (named 0) (s₁ .κ) u8 .own (at s₁ (u .blocks) .s) (sliceVal (s₁ .s .ptr) k ∷ []))) (len .blocks) refl $
                 rewrite ! 3 (λ (k : ℕ). ‵ (MutSlice (named 0) (s₂ .κ) u8 .own (at s₂ (u .spare) .s) (sliceVal (s₂ .s .ptr) k ∷ []))) (len .spare) refl $
                 rewrite ! 5 (λ (k : ℕ). ‵ (MutSlice (named 0) (s₃ .κ) u8 .own (at s₃ (u .differences) .s) (sliceVal (s₃ .s .ptr) k ∷ [])))
-                (len .differences) refl $ rewrite ! 7 (λ (k : ℕ). ‵ (MutSlice (named 0) (s₄ .κ) u8 .own (at s₄ (u .value) .s)
-                (sliceVal (s₄ .s .ptr) k ∷ []))) (len .value) refl $ rewrite ! 9 (λ (k : ℕ). ‵ (MutSlice (named 0) (s₅ .κ) u8 .own (at s₅ (u .shown) .s)
-                (sliceVal (s₅ .s .ptr) k ∷ []))) (len .shown) refl $ rewrite ! 11 (λ (k : ℕ). ‵ (MutSlice (named 0) (s₆ .κ) u8 .own (at s₆ (u .buffer) .s)
-                (sliceVal (s₆ .s .ptr) k ∷ []))) (len .buffer) refl $ rewrite ! 13 (λ (k : ℕ). ‵ (MutSlice (named 0) (s₇ .κ) u8 .own (at s₇ (u .out) .s)
-                (sliceVal (s₇ .s .ptr) k ∷ []))) (len .out) refl $
+                (len .differences) refl $
+                rewrite ! 7 (λ (k : ℕ). ‵ (MutSlice (named 0) (s₄ .κ) u8 .own (at s₄ (u .value) .s) (sliceVal (s₄ .s .ptr) k ∷ []))) (len .value) refl $
+                rewrite ! 9 (λ (k : ℕ). ‵ (MutSlice (named 0) (s₅ .κ) u8 .own (at s₅ (u .buffer) .s) (sliceVal (s₅ .s .ptr) k ∷ []))) (len .buffer) refl $
+                rewrite ! 11 (λ (k : ℕ). ‵ (MutSlice (named 0) (s₆ .κ) u8 .own (at s₆ (u .out) .s) (sliceVal (s₆ .s .ptr) k ∷ []))) (len .out) refl $
                 suffices ! _ (ends-at 𝓤 H A′ play-ended stayed (play-clauses 𝓤) W bound (p .val (u .p)) (u .p) (
                   u .blocks,
                   (
                     u .spare,
                     (
                       u .differences,
-                      (u .value, (u .shown, (u .buffer, (u .out, (FN .r .last n₀, (FC .r .last c₀, (p .last p₀, tt))))))),
+                      (u .value, (u .buffer, (u .out, (FN .r .last n₀, (FC .r .last c₀, (p .last p₀, tt)))))),
                     ),
                   ),
                 )
-                (len .blocks, (len .spare, (len .differences, (len .value, (len .shown, (len .buffer, (len .out, (tt, (tt, (tt, tt))))))))))) $ says ! none $
-                nothing ! $ move ! (13 ∷ []) $ join ! $ move ! (11 ∷ []) $ join ! $ move ! (9 ∷ []) $ join ! $ move ! (7 ∷ []) $ join ! $ move ! (5 ∷ []) $
+                (len .blocks, (len .spare, (len .differences, (len .value, (len .buffer, (len .out, (tt, (tt, (tt, tt)))))))))) $ says ! none $
+                nothing ! $ move ! (11 ∷ []) $ join ! $ move ! (9 ∷ []) $ join ! $ move ! (7 ∷ []) $ join ! $ move ! (5 ∷ []) $
                 join ! $ move ! (3 ∷ []) $ join ! $ move ! (1 ∷ []) $ join ! $ frame ! $ nothing ! $ owned ! P (Is P) (p .makes 𝓤 H A′ W) p₀ _ p₀-is $
                 fjoin ! $ owned ! C (Is C) (FC .r .makes 𝓤 H A′ W) c₀ _ c₀-is $ fjoin ! $ owned ! N (Is N) (FN .r .makes 𝓤 H A′ W) n₀ _ n₀-is $ fjoin ! $
-                move ! (7 ∷ []) $ fjoin ! $ move ! (6 ∷ []) $ fjoin ! $ move ! (5 ∷ []) $ fjoin ! $ move ! (4 ∷ []) $ fjoin ! $ move ! (3 ∷ []) $ fjoin ! $
+                move ! (6 ∷ []) $ fjoin ! $ move ! (5 ∷ []) $ fjoin ! $ move ! (4 ∷ []) $ fjoin ! $ move ! (3 ∷ []) $ fjoin ! $
                 move ! (2 ∷ []) $ fjoin ! $ move ! (1 ∷ []) $ fjoin ! $ frame ! $ owned ! P (Is P) (p .makes 𝓤 H A′ W) (u .p) _ p-is $ done !
 
             abbrev Facts : Now N C P → Type 0
             Facts u = Is P (u .p) (p .val (u .p) ∷ []) × Alike N C P u start
 
             module _ (νN νC : ℕ) (δN δC : GName)
-                (l₀ l₁ l₂ l₃ l₄ l₅ l₆ l₇ l₈ l₉ l₁₀ l₁₁ l₁₂ l₁₃ l₁₄ l₁₅ l₁₆ l₁₇ l₁₈ l₁₉ l₂₀ l₂₁ l₂₂ l₂₃ l₂₄ l₂₅ l₂₆ l₂₇ l₂₈ l₂₉ l₃₀ l₃₁ l₃₂ l₃₃ l₃₄ l₃₅ l₃₆
-                l₃₇ l₃₈ l₃₉ l₄₀ l₄₁ l₄₂ l₄₃ l₄₄ l₄₅ l₄₆ l₄₇ l₄₈ l₄₉ l₅₀ l₅₁ l₅₂ l₅₃ l₅₄ l₅₅ l₅₆ : ℕ) where
+                (l₀ l₁ l₂ l₃ l₄ l₅ l₆ l₇ l₈ l₉ l₁₀ l₁₁ l₁₂ l₁₃ l₁₄ l₁₅ l₁₆ l₁₇ l₁₈ l₁₉ l₂₀ l₂₁ l₂₂ l₂₃ l₂₄ l₂₅ l₂₆ l₂₇ l₂₈ l₂₉ l₃₀ l₃₁ l₃₂ l₃₃ l₃₄ l₃₅ l₃₆ l₃₇
+                l₃₈ l₃₉ l₄₀ l₄₁ l₄₂ l₄₃ l₄₄ l₄₅ l₄₆ l₄₇ l₄₈ l₄₉ l₅₀ l₅₁ : ℕ) where
               abbrev sN : Loan N
-              sN = loan N FN (equal N FN n₀) l₁₁ νN δN
+              sN = loan N FN (equal N FN n₀) l₁₀ νN δN
 
               abbrev sC : Loan C
-              sC = loan C FC (equal C FC c₀) l₁₂ νC δC
+              sC = loan C FC (equal C FC c₀) l₁₁ νC δC
 
               -- what a turn uses
               abbrev used : Env 𝓤 H
-              used = (l .ty, l₁₄) ∷ (a .ty, l₁₅) ∷ (b .ty, l₁₆) ∷ (x .ty, l₁₇) ∷ (y .ty, l₁₈) ∷ (p .ty, l₁₉) ∷ (tyBool, l₂₀) ∷ (byte mut, l₂₁) ∷
-                  (bytes erased mut, l₂₂) ∷ (byte mut, l₂₃) ∷ (bytes erased mut, l₂₄) ∷ (whole-of N FN mut, l₂₅) ∷ (records N mut, l₂₆) ∷ (
-                    whole-of C FC mut,
-                    l₂₇,
-                  ) ∷ (records C mut, l₂₈) ∷ (byte mut, l₂₉) ∷ (bytes erased mut, l₃₀) ∷ (byte mut, l₃₁) ∷ (bytes erased mut, l₃₂) ∷ (byte mut, l₃₃) ∷
-                  (bytes erased mut, l₃₄) ∷ (byte imm, l₃₅) ∷ (bytes erased imm, l₃₆) ∷ (whole-of N FN imm, l₃₇) ∷ (records N imm, l₃₈) ∷ (byte mut, l₃₉) ∷
-                  (bytes erased mut, l₄₀) ∷ (byte imm, l₄₁) ∷ (bytes erased imm, l₄₂) ∷ (whole-of N FN imm, l₄₃) ∷ (records N imm, l₄₄) ∷ (
-                    whole-of C FC imm,
-                    l₄₅,
-                  ) ∷ (records C imm, l₄₆) ∷ (byte imm, l₄₇) ∷ (bytes erased imm, l₄₈) ∷ (byte imm, l₄₉) ∷ (bytes erased imm, l₅₀) ∷ (byte imm, l₅₁) ∷
-                  (bytes erased imm, l₅₂) ∷ (byte imm, l₅₃) ∷ (bytes erased imm, l₅₄) ∷ (byte mut, l₅₅) ∷ (bytes erased mut, l₅₆) ∷ []
+              used = (l .ty, l₁₃) ∷ (a .ty, l₁₄) ∷ (b .ty, l₁₅) ∷ (x .ty, l₁₆) ∷ (y .ty, l₁₇) ∷ (p .ty, l₁₈) ∷ (tyBool, l₁₉) ∷ (byte mut, l₂₀) ∷
+                  (bytes erased mut, l₂₁) ∷ (byte mut, l₂₂) ∷ (bytes erased mut, l₂₃) ∷ (whole-of N FN mut, l₂₄) ∷ (records N mut, l₂₅) ∷
+                  (whole-of C FC mut, l₂₆) ∷ (records C mut, l₂₇) ∷ (byte mut, l₂₈) ∷ (bytes erased mut, l₂₉) ∷ (byte mut, l₃₀) ∷ (bytes erased mut, l₃₁) ∷
+                  (byte mut, l₃₂) ∷ (bytes erased mut, l₃₃) ∷ (byte imm, l₃₄) ∷ (bytes erased imm, l₃₅) ∷ (whole-of N FN imm, l₃₆) ∷ (records N imm, l₃₇) ∷
+                  (whole-of C FC imm, l₃₈) ∷ (records C imm, l₃₉) ∷ (whole-of N FN imm, l₄₀) ∷ (records N imm, l₄₁) ∷ (whole-of C FC imm, l₄₂) ∷
+                  (records C imm, l₄₃) ∷ (byte imm, l₄₄) ∷ (bytes erased imm, l₄₅) ∷ (byte imm, l₄₆) ∷ (bytes erased imm, l₄₇) ∷ (byte imm, l₄₈) ∷
+                  (bytes erased imm, l₄₉) ∷ (byte mut, l₅₀) ∷ (bytes erased mut, l₅₁) ∷ []
 
               abbrev E : Env 𝓤 H
               E = (p .ty, l₀) ∷ (bytes (named 0) mut, l₁) ∷ (bytes (named 1) mut, l₂) ∷ (bytes (named 2) mut, l₃) ∷ (bytes (named 3) mut, l₄) ∷
-                  (bytes (named 4) mut, l₅) ∷ (bytes (named 5) mut, l₆) ∷ (bytes (named 6) mut, l₇) ∷ (FN .r .ty, l₈) ∷ (FC .r .ty, l₉) ∷ (p .ty, l₁₀) ∷
-                  (arrayTy N FN, l₁₁) ∷ (arrayTy C FC, l₁₂) ∷ (p .ty, l₁₃) ∷ used
+                  (bytes (named 4) mut, l₅) ∷ (bytes (named 5) mut, l₆) ∷ (FN .r .ty, l₇) ∷ (FC .r .ty, l₈) ∷ (p .ty, l₉) ∷ (arrayTy N FN, l₁₀) ∷
+                  (arrayTy C FC, l₁₁) ∷ (p .ty, l₁₂) ∷ used
 
               abbrev Here : Now N C P → List (Item 𝓤)
               Here u = ‵ (Token (at s₁ (u .blocks))) ∷ ‵ (Mut (at s₁ (u .blocks))) ∷ ‵ (Token (at s₂ (u .spare))) ∷ ‵ (Mut (at s₂ (u .spare))) ∷
                   ‵ (Token (at s₃ (u .differences))) ∷ ‵ (Mut (at s₃ (u .differences))) ∷ ‵ (Token (at s₄ (u .value))) ∷ ‵ (Mut (at s₄ (u .value))) ∷
-                  ‵ (Token (at s₅ (u .shown))) ∷ ‵ (Mut (at s₅ (u .shown))) ∷ ‵ (Token (at s₆ (u .buffer))) ∷ ‵ (Mut (at s₆ (u .buffer))) ∷
-                  ‵ (Token (at s₇ (u .out))) ∷ ‵ (Mut (at s₇ (u .out))) ∷ ‵ (Token (at sN (u .ns))) ∷ ‵ (Mut (at sN (u .ns))) ∷ ‵ (Token (at sC (u .cs))) ∷
-                  ‵ (Mut (at sC (u .cs))) ∷ ‵ (Rest N FN l₁₁ νN δN) ∷ ‵ (Rest C FC l₁₂ νC δC) ∷ idle used (‵ (fat fullShare (p .ty) l₁₃ 0 (p .val (u .p))) ∷
-                  ‵ (fdies (p .ty) l₁₃) ∷ ‵ (fdies (arrayTy C FC) l₁₂) ∷ ‵ (fdies (arrayTy N FN) l₁₁) ∷ ‵ (fat fullShare (p .ty) l₁₀ 0 (p .val p₀)) ∷
-                  ‵ (fdies (p .ty) l₁₀) ∷ ‵ (fat fullShare (FC .r .ty) l₉ 0 (FC .r .val c₀)) ∷ ‵ (fdies (FC .r .ty) l₉) ∷ ‵ (fat fullShare (FN .r .ty) l₈ 0
-                  (FN .r .val n₀)) ∷ ‵ (fdies (FN .r .ty) l₈) ∷ ‵ (fat fullShare (bytes (named 6) mut) l₇ 0 (valOf s₇)) ∷
-                  ‵ (fdies (bytes (named 6) mut) l₇) ∷ ‵ (fat fullShare (bytes (named 5) mut) l₆ 0 (valOf s₆)) ∷ ‵ (fdies (bytes (named 5) mut) l₆) ∷
-                  ‵ (fat fullShare (bytes (named 4) mut) l₅ 0 (valOf s₅)) ∷ ‵ (fdies (bytes (named 4) mut) l₅) ∷ ‵ (fat fullShare (bytes (named 3) mut) l₄ 0
-                  (valOf s₄)) ∷ ‵ (fdies (bytes (named 3) mut) l₄) ∷ ‵ (fat fullShare (bytes (named 2) mut) l₃ 0 (valOf s₃)) ∷
-                  ‵ (fdies (bytes (named 2) mut) l₃) ∷ ‵ (fat fullShare (bytes (named 1) mut) l₂ 0 (valOf s₂)) ∷ ‵ (fdies (bytes (named 1) mut) l₂) ∷
+                  ‵ (Token (at s₅ (u .buffer))) ∷ ‵ (Mut (at s₅ (u .buffer))) ∷ ‵ (Token (at s₆ (u .out))) ∷ ‵ (Mut (at s₆ (u .out))) ∷
+                  ‵ (Token (at sN (u .ns))) ∷ ‵ (Mut (at sN (u .ns))) ∷ ‵ (Token (at sC (u .cs))) ∷ ‵ (Mut (at sC (u .cs))) ∷ ‵ (Rest N FN l₁₀ νN δN) ∷
+                  ‵ (Rest C FC l₁₁ νC δC) ∷
+                  idle used (‵ (fat fullShare (p .ty) l₁₂ 0 (p .val (u .p))) ∷ ‵ (fdies (p .ty) l₁₂) ∷ ‵ (fdies (arrayTy C FC) l₁₁) ∷ ‵ (fdies
+                  (arrayTy N FN) l₁₀) ∷
+                  ‵ (fat fullShare (p .ty) l₉ 0 (p .val p₀)) ∷ ‵ (fdies (p .ty) l₉) ∷ ‵ (fat fullShare (FC .r .ty) l₈ 0 (FC .r .val c₀)) ∷
+                  ‵ (fdies (FC .r .ty) l₈) ∷ ‵ (fat fullShare (FN .r .ty) l₇ 0 (FN .r .val n₀)) ∷ ‵ (fdies (FN .r .ty) l₇) ∷
+                  ‵ (fat fullShare (bytes (named 5) mut) l₆ 0 (valOf s₆)) ∷ ‵ (fdies (bytes (named 5) mut) l₆) ∷
+                  ‵ (fat fullShare (bytes (named 4) mut) l₅ 0 (valOf s₅)) ∷ ‵ (fdies (bytes (named 4) mut) l₅) ∷
+                  ‵ (fat fullShare (bytes (named 3) mut) l₄ 0 (valOf s₄)) ∷ ‵ (fdies (bytes (named 3) mut) l₄) ∷
+                  ‵ (fat fullShare (bytes (named 2) mut) l₃ 0 (valOf s₃)) ∷ ‵ (fdies (bytes (named 2) mut) l₃) ∷
+                  ‵ (fat fullShare (bytes (named 1) mut) l₂ 0 (valOf s₂)) ∷ ‵ (fdies (bytes (named 1) mut) l₂) ∷
                   ‵ (fat fullShare (bytes (named 0) mut) l₁ 0 (valOf s₁)) ∷ ‵ (fdies (bytes (named 0) mut) l₁) ∷ ‵ (froom (p .ty) l₀ 0) ∷
                   ‵ (fdies (p .ty) l₀) ∷ [])
 
@@ -823,132 +798,125 @@ module _ (N C P L A B X Y : RattleType) (FN : Table N) (FC : Table C) (p : Rec P
 
               ending : (u : Now N C P) → Facts u → leftP (u .p) ≡ 0 → Sq W (Here u) (runs (𝓣 .C) (𝓣 .Λ) E rest (atRet E Post))
               ending u facts nothing-left =
-                  -- [the slices and the tables: 0 to 17; what is kept of the tables: 18 and 19; _56: 20, and so on by two;
-                  -- _12 and _11: 108 and 109; _10: 110, and so on by two]
-                  move ! (14 ∷ 15 ∷ 18 ∷ []) $
-                  frees-table N FN ! tt (u .ns) l₁₁ νN δN $ move ! (15 ∷ 16 ∷ 17 ∷ []) $
-                  frees-table C FC ! tt (u .cs) l₁₂ νC δC $ move ! (2 ∷ 3 ∷ 4 ∷ 5 ∷ 6 ∷ 7 ∷ 8 ∷ 9 ∷ 10 ∷ 11 ∷ 12 ∷ 13 ∷ 14 ∷ 15 ∷ []) $
-                  assigns ! (of-opd ! (load ! (from ! (stop !)) (look ! 102 refl))) (from ! (stop !)) (init ! 126 refl (p .typed 𝓤 H A′ W _ _ (facts .0))) $
-                  returns ! (look ! 126 refl) $ gone ! 126 refl refl $ gone ! 124 refl refl $ gone ! 122 refl refl $ gone ! 120 refl refl $
-                  gone ! 118 refl refl $ gone ! 116 refl refl $ gone ! 114 refl refl $ gone ! 112 refl refl $ gone ! 110 refl refl $ gone ! 108 refl refl $
-                  gone ! 106 refl refl $ move ! (15 ∷ 105 ∷ []) $ unused ! 0 refl refl $ move ! (14 ∷ 103 ∷ []) $ unused ! 0 refl refl $
-                  gone ! 100 refl refl $ unused ! 98 refl refl $ unused ! 96 refl refl $ unused ! 94 refl refl $ unused ! 92 refl refl $
-                  unused ! 90 refl refl $ unused ! 88 refl refl $ unused ! 86 refl refl $ unused ! 84 refl refl $ unused ! 82 refl refl $
-                  unused ! 80 refl refl $ unused ! 78 refl refl $ unused ! 76 refl refl $ unused ! 74 refl refl $ unused ! 72 refl refl $
-                  unused ! 70 refl refl $ unused ! 68 refl refl $ unused ! 66 refl refl $ unused ! 64 refl refl $ unused ! 62 refl refl $
-                  unused ! 60 refl refl $ unused ! 58 refl refl $ unused ! 56 refl refl $ unused ! 54 refl refl $ unused ! 52 refl refl $
-                  unused ! 50 refl refl $ unused ! 48 refl refl $ unused ! 46 refl refl $ unused ! 44 refl refl $ unused ! 42 refl refl $
-                  unused ! 40 refl refl $ unused ! 38 refl refl $ unused ! 36 refl refl $ unused ! 34 refl refl $ unused ! 32 refl refl $
-                  unused ! 30 refl refl $ unused ! 28 refl refl $ unused ! 26 refl refl $ unused ! 24 refl refl $ unused ! 22 refl refl $
-                  unused ! 20 refl refl $ unused ! 18 refl refl $ unused ! 16 refl refl $ unused ! 14 refl refl $
-                  free0 ! $ by ! (exits u (facts .1) (facts .0) nothing-left)
+                  -- [the slices and the tables: 0 to 15; what is kept of the tables: 16 and 17; _51: 18, and so on by two;
+                  -- _11 and _10: 98 and 99; _9: 100, and so on by two]
+                  move ! (12 ∷ 13 ∷ 16 ∷ []) $
+                  frees-table N FN ! tt (u .ns) l₁₀ νN δN $ move ! (13 ∷ 14 ∷ 15 ∷ []) $
+                  frees-table C FC ! tt (u .cs) l₁₁ νC δC $ move ! (2 ∷ 3 ∷ 4 ∷ 5 ∷ 6 ∷ 7 ∷ 8 ∷ 9 ∷ 10 ∷ 11 ∷ 12 ∷ 13 ∷ []) $
+                  assigns ! (of-opd ! (load ! (from ! (stop !)) (look ! 92 refl))) (from ! (stop !)) (init ! 114 refl (p .typed 𝓤 H A′ W _ _ (facts .0))) $
+                  returns ! (look ! 114 refl) $ gone ! 114 refl refl $ gone ! 112 refl refl $ gone ! 110 refl refl $ gone ! 108 refl refl $
+                  gone ! 106 refl refl $ gone ! 104 refl refl $ gone ! 102 refl refl $ gone ! 100 refl refl $ gone ! 98 refl refl $ gone ! 96 refl refl $
+                  move ! (13 ∷ 95 ∷ []) $ unused ! 0 refl refl $ move ! (12 ∷ 93 ∷ []) $ unused ! 0 refl refl $ gone ! 90 refl refl $ unused ! 88 refl refl $
+                  unused ! 86 refl refl $ unused ! 84 refl refl $ unused ! 82 refl refl $ unused ! 80 refl refl $ unused ! 78 refl refl $
+                  unused ! 76 refl refl $ unused ! 74 refl refl $ unused ! 72 refl refl $ unused ! 70 refl refl $ unused ! 68 refl refl $
+                  unused ! 66 refl refl $ unused ! 64 refl refl $ unused ! 62 refl refl $ unused ! 60 refl refl $ unused ! 58 refl refl $
+                  unused ! 56 refl refl $ unused ! 54 refl refl $ unused ! 52 refl refl $ unused ! 50 refl refl $ unused ! 48 refl refl $
+                  unused ! 46 refl refl $ unused ! 44 refl refl $ unused ! 42 refl refl $ unused ! 40 refl refl $ unused ! 38 refl refl $
+                  unused ! 36 refl refl $ unused ! 34 refl refl $ unused ! 32 refl refl $ unused ! 30 refl refl $ unused ! 28 refl refl $
+                  unused ! 26 refl refl $ unused ! 24 refl refl $ unused ! 22 refl refl $ unused ! 20 refl refl $ unused ! 18 refl refl $
+                  unused ! 16 refl refl $ unused ! 14 refl refl $ unused ! 12 refl refl $ free0 ! $ by ! (exits u (facts .1) (facts .0) nothing-left)
 
               playing : (u : Now N C P) → Facts u → T (ltb 0 (leftP (u .p))) → Sq W (Here u) (runs (𝓣 .C) (𝓣 .Λ) E played (Turn u))
               unfolding afterTurn
               playing u facts more =
-                  makes-again ! 118 90 88 (room₆ .0) (sym (len .buffer)) refl refl refl refl refl refl refl refl $
-                  makes-again ! 122 86 84 (room₄ .0) (sym (len .value)) refl refl refl refl refl refl refl refl $ move ! (10 ∷ 11 ∷ 6 ∷ 7 ∷ []) $
-                  nexts-on P L Nexts p (at s₆ (u .buffer)) (at s₄ (u .value)) (u .p) ! (fmOf 𝓤 H (W .laws) 𝓣) known-next p-is (still u8 room₆ (len .buffer))
-                  (still u8 room₄ (len .value)) (λ ν₁ ν₂ δ₁ δ₂. (and-then ! (load ! (from ! (stop !)) (look ! 105 refl)) (and-then ! (load ! (from !
-                  (stop !)) (look ! 87 refl)) (and-then ! (load ! (from ! (stop !)) (look ! 83 refl)) (no-more !))))) (λ wl zl same-l got-l.
+                  makes-again ! 108 80 78 (room₅ .0) (sym (len .buffer)) refl refl refl refl refl refl refl refl $
+                  makes-again ! 110 76 74 (room₄ .0) (sym (len .value)) refl refl refl refl refl refl refl refl $
+                  move ! (8 ∷ 9 ∷ 6 ∷ 7 ∷ []) $
+                  nexts-on P L Nexts p (at s₅ (u .buffer)) (at s₄ (u .value)) (u .p) ! (fmOf 𝓤 H (W .laws) 𝓣) known-next p-is (still u8 room₅ (len .buffer))
+                  (still u8 room₄ (len .value)) (λ ν₁ ν₂ δ₁ δ₂. (and-then ! (load ! (from ! (stop !)) (look ! 95 refl)) (and-then ! (load ! (from !
+                  (stop !)) (look ! 77 refl)) (and-then ! (load ! (from ! (stop !)) (look ! 73 refl)) (no-more !))))) (λ wl zl same-l got-l.
                   let line = the-value L l (got-l .0) wl (got-l .1 .0) in
-                  land ! (from ! (stop !)) (init ! 104 refl (l .typed 𝓤 H A′ W (got-l .0) wl (got-l .1 .0))) $
-                  rewrite ! 104 (λ (v : Val). ‵ (fat fullShare (l .ty) l₁₄ 0 v)) (line .0) refl $
-                  makes-slice ! 82 80 (lit< (FN .count)) (sym (len .ns ∙ length-replicate (FN .n) n₀)) refl refl (addr ! (from ! (stop !))) refl (numbers !
+                  land ! (from ! (stop !)) (init ! 94 refl (l .typed 𝓤 H A′ W (got-l .0) wl (got-l .1 .0))) $
+                  rewrite ! 94 (λ (v : Val). ‵ (fat fullShare (l .ty) l₁₃ 0 v)) (line .0) refl $
+                  makes-slice ! 72 70 (lit< (FN .count)) (sym (len .ns ∙ length-replicate (FN .n) n₀)) refl refl (addr ! (from ! (stop !))) refl (numbers !
                   (ltb (FN .n) 1024) (FN .n) (FN .count)) refl refl $
-                  makes-slice ! 78 76 (lit< (FC .count)) (sym (len .cs ∙ length-replicate (FC .n) c₀)) refl refl (addr ! (from ! (stop !))) refl (numbers !
+                  makes-slice ! 68 66 (lit< (FC .count)) (sym (len .cs ∙ length-replicate (FC .n) c₀)) refl refl (addr ! (from ! (stop !))) refl (numbers !
                   (ltb (FC .n) 1024) (FC .n) (FC .count)) refl refl $
-                  makes-again ! 128 74 72 (room₁ .0) (sym (len .blocks)) refl refl refl refl refl refl refl refl $
-                  makes-again ! 126 70 68 (room₂ .0) (sym (len .spare)) refl refl refl refl refl refl refl refl $
-                  makes-again ! 124 66 64 (room₃ .0) (sym (len .differences)) refl refl refl refl refl refl refl refl $
-                  makes-again ! 122 62 60 (room₄ .0) (sym (same-l .1 ∙ len .value)) refl refl refl refl refl refl refl refl $
-                  move ! (14 ∷ 15 ∷ 16 ∷ 17 ∷ 4 ∷ 5 ∷ 6 ∷ 7 ∷ 8 ∷ 9 ∷ 2 ∷ 3 ∷ []) $
+                  makes-again ! 116 64 62 (room₁ .0) (sym (len .blocks)) refl refl refl refl refl refl refl refl $
+                  makes-again ! 114 60 58 (room₂ .0) (sym (len .spare)) refl refl refl refl refl refl refl refl $
+                  makes-again ! 112 56 54 (room₃ .0) (sym (len .differences)) refl refl refl refl refl refl refl refl $
+                  makes-again ! 110 52 50 (room₄ .0) (sym (same-l .1 ∙ len .value)) refl refl refl refl refl refl refl refl $
+                  move ! (12 ∷ 13 ∷ 14 ∷ 15 ∷ 4 ∷ 5 ∷ 6 ∷ 7 ∷ 8 ∷ 9 ∷ 2 ∷ 3 ∷ []) $
                   makes-on N C L A Called l (at sN (u .ns)) (at sC (u .cs)) (at s₁ (u .blocks)) (at s₂ (u .spare)) (at s₃ (u .differences)) (at s₄ (zl .1))
                   (got-l .0) ! (fmOf 𝓤 H (W .laws) 𝓣) known-call (line .1) (room N FN (u .ns) (len .ns ∙ length-replicate (FN .n) n₀)) (room C FC (u .cs)
                   (len .cs ∙ length-replicate (FC .n) c₀)) (still u8 room₁ (len .blocks)) (still u8 room₂ (len .spare)) (still u8 room₃ (len .differences))
-                  (still u8 room₄ (same-l .1 ∙ len .value)) (λ νN νC ν₁ ν₂ ν₃ ν₄ δN δC δ₁ δ₂ δ₃ δ₄. (and-then ! (load ! (from ! (stop !)) (look ! 75 refl))
-                  (and-then ! (load ! (from ! (stop !)) (look ! 71 refl)) (and-then ! (load ! (from ! (stop !)) (look ! 67 refl)) (and-then ! (load ! (from !
-                  (stop !)) (look ! 63 refl)) (and-then ! (load ! (from ! (stop !)) (look ! 59 refl)) (and-then ! (load ! (from ! (stop !)) (look ! 55 refl))
-                  (and-then ! (load ! (from ! (stop !)) (look ! 99 refl)) (no-more !))))))))) (λ wa za same-a got-a.
+                  (still u8 room₄ (same-l .1 ∙ len .value)) (λ νN νC ν₁ ν₂ ν₃ ν₄ δN δC δ₁ δ₂ δ₃ δ₄. (and-then ! (load ! (from ! (stop !)) (look ! 65 refl))
+                  (and-then ! (load ! (from ! (stop !)) (look ! 61 refl)) (and-then ! (load ! (from ! (stop !)) (look ! 57 refl)) (and-then ! (load !
+                  (from ! (stop !)) (look ! 53 refl)) (and-then ! (load ! (from ! (stop !)) (look ! 49 refl)) (and-then ! (load ! (from ! (stop !))
+                  (look ! 45 refl)) (and-then ! (load ! (from ! (stop !)) (look ! 89 refl)) (no-more !))))))))) (λ wa za same-a got-a.
                   let answer = the-value A a (got-a .0) wa (got-a .1 .0) in
-                  land ! (from ! (stop !)) (init ! 102 refl (a .typed 𝓤 H A′ W (got-a .0) wa (got-a .1 .0))) $
-                  rewrite ! 102 (λ (v : Val). ‵ (fat fullShare (a .ty) l₁₅ 0 v)) (answer .0) refl $
-                  makes-slice ! 58 56 (lit< (FN .count)) (sym (same-a .0 ∙ len .ns ∙ length-replicate (FN .n) n₀)) refl refl (addr ! (from ! (stop !))) refl
+                  land ! (from ! (stop !)) (init ! 92 refl (a .typed 𝓤 H A′ W (got-a .0) wa (got-a .1 .0))) $
+                  rewrite ! 92 (λ (v : Val). ‵ (fat fullShare (a .ty) l₁₄ 0 v)) (answer .0) refl $
+                  makes-slice ! 48 46 (lit< (FN .count)) (sym (same-a .0 ∙ len .ns ∙ length-replicate (FN .n) n₀)) refl refl (addr ! (from ! (stop !))) refl
                   (numbers ! (ltb (FN .n) 1024) (FN .n) (FN .count)) refl refl $
-                  makes-again ! 120 54 52 (room₅ .0) (sym (len .shown)) refl refl refl refl refl refl refl refl $
-                  makes-again ! 128 50 48 (room₁ .0) (sym (same-a .1 .1 .0 ∙ len .blocks)) refl refl refl refl refl refl refl refl $
-                  move ! (0 ∷ 1 ∷ 14 ∷ 15 ∷ 4 ∷ 5 ∷ []) $
-                  reads-on N L B Read l (at sN (za .0)) (at s₅ (u .shown)) (at s₁ (za .1 .1 .0)) (got-l .0) ! (fmOf 𝓤 H (W .laws) 𝓣) known-read (line .1)
-                  (room N FN (za .0) (same-a .0 ∙ len .ns ∙ length-replicate (FN .n) n₀)) (still u8 room₅ (len .shown)) (still u8 room₁ (same-a .1 .1 .0 ∙
-                  len .blocks)) (λ νN ν₁ ν₂ δN δ₁ δ₂. (and-then ! (load ! (from ! (stop !)) (look ! 54 refl)) (and-then ! (load ! (from ! (stop !))
-                  (look ! 50 refl)) (and-then ! (load ! (from ! (stop !)) (look ! 46 refl)) (and-then ! (load ! (from ! (stop !)) (look ! 102 refl))
-                  (no-more !)))))) (λ wb zb same-b got-b.
+                  makes-slice ! 44 42 (lit< (FC .count)) (sym (same-a .1 .0 ∙ len .cs ∙ length-replicate (FC .n) c₀)) refl refl (addr ! (from !
+                  (stop !))) refl (numbers ! (ltb (FC .n) 1024) (FC .n) (FC .count)) refl refl $
+                  reads-on N C L B Read l (at sN (za .0)) (at sC (za .1 .0)) (got-l .0) ! (fmOf 𝓤 H (W .laws) 𝓣) known-read (line .1)
+                  (room N FN (za .0) (same-a .0 ∙ len .ns ∙ length-replicate (FN .n) n₀)) (room C FC (za .1 .0) (same-a .1 .0 ∙ len .cs ∙ length-replicate
+                  (FC .n) c₀)) (λ νN νC δN δC. (and-then ! (load ! (from ! (stop !)) (look ! 45 refl)) (and-then ! (load ! (from ! (stop !)) (look ! 41 refl))
+                  (and-then ! (load ! (from ! (stop !)) (look ! 93 refl)) (no-more !))))) (λ wb got-b.
                   let told = the-value B b (got-b .0) wb (got-b .1 .0) in
-                  land ! (from ! (stop !)) (init ! 100 refl (b .typed 𝓤 H A′ W (got-b .0) wb (got-b .1 .0))) $
-                  rewrite ! 100 (λ (v : Val). ‵ (fat fullShare (b .ty) l₁₆ 0 v)) (told .0) refl $
-                  makes-slice ! 46 44 (lit< (FN .count)) (sym (same-a .0 ∙ len .ns ∙ length-replicate (FN .n) n₀)) refl refl (addr ! (from ! (stop !))) refl
+                  land ! (from ! (stop !)) (init ! 90 refl (b .typed 𝓤 H A′ W (got-b .0) wb (got-b .1 .0))) $
+                  rewrite ! 90 (λ (v : Val). ‵ (fat fullShare (b .ty) l₁₅ 0 v)) (told .0) refl $
+                  makes-slice ! 40 38 (lit< (FN .count)) (sym (same-a .0 ∙ len .ns ∙ length-replicate (FN .n) n₀)) refl refl (addr ! (from ! (stop !))) refl
                   (numbers ! (ltb (FN .n) 1024) (FN .n) (FN .count)) refl refl $
                   views ! nodes-seen (fmOf 𝓤 H (W .laws) 𝓣) known-see (at sN (za .0)) (room N FN (za .0) (same-a .0 ∙ len .ns ∙ length-replicate (FN .n) n₀))
-                  (got-l .0) (l .val (got-l .0)) (line .1) (λ ν δ. (and-then ! (load ! (from ! (stop !)) (look ! 47 refl)) (and-then ! (load ! (from !
-                  (stop !)) (look ! 107 refl)) (no-more !)))) (λ wx got-x.
+                  (got-l .0) (l .val (got-l .0)) (line .1) (λ ν δ. (and-then ! (load ! (from ! (stop !)) (look ! 41 refl)) (and-then ! (load ! (from !
+                  (stop !)) (look ! 97 refl)) (no-more !)))) (λ wx got-x.
                   let seen = the-value X x (got-x .0) wx (got-x .1 .0) in
-                  land ! (from ! (stop !)) (init ! 98 refl (x .typed 𝓤 H A′ W (got-x .0) wx (got-x .1 .0))) $
-                  rewrite ! 98 (λ (v : Val). ‵ (fat fullShare (x .ty) l₁₇ 0 v)) (seen .0) refl $
-                  makes-slice ! 42 40 (lit< (FC .count)) (sym (same-a .1 .0 ∙ len .cs ∙ length-replicate (FC .n) c₀)) refl refl (addr ! (from !
+                  land ! (from ! (stop !)) (init ! 88 refl (x .typed 𝓤 H A′ W (got-x .0) wx (got-x .1 .0))) $
+                  rewrite ! 88 (λ (v : Val). ‵ (fat fullShare (x .ty) l₁₆ 0 v)) (seen .0) refl $
+                  makes-slice ! 36 34 (lit< (FC .count)) (sym (same-a .1 .0 ∙ len .cs ∙ length-replicate (FC .n) c₀)) refl refl (addr ! (from !
                   (stop !))) refl (numbers ! (ltb (FC .n) 1024) (FC .n) (FC .count)) refl refl $
-                  move ! (6 ∷ 7 ∷ []) $
+                  move ! (2 ∷ 3 ∷ []) $
                   views ! clients-seen (fmOf 𝓤 H (W .laws) 𝓣) known-take (at sC (za .1 .0)) (room C FC (za .1 .0) (same-a .1 .0 ∙ len .cs ∙ length-replicate
-                  (FC .n) c₀)) (got-l .0) (l .val (got-l .0)) (line .1) (λ ν δ. (and-then ! (load ! (from ! (stop !)) (look ! 43 refl)) (and-then ! (load !
-                  (from ! (stop !)) (look ! 107 refl)) (no-more !)))) (λ wy got-y.
+                  (FC .n) c₀)) (got-l .0) (l .val (got-l .0)) (line .1) (λ ν δ. (and-then ! (load ! (from ! (stop !)) (look ! 37 refl)) (and-then ! (load !
+                  (from !
+                  (stop !)) (look ! 97 refl)) (no-more !)))) (λ wy got-y.
                   let taken = the-value Y y (got-y .0) wy (got-y .1 .0) in
-                  land ! (from ! (stop !)) (init ! 96 refl (y .typed 𝓤 H A′ W (got-y .0) wy (got-y .1 .0))) $
-                  rewrite ! 96 (λ (v : Val). ‵ (fat fullShare (y .ty) l₁₈ 0 v)) (taken .0) refl $
-                  makes-again ! 128 38 36 (room₁ .0) (sym (same-a .1 .1 .0 ∙ len .blocks)) refl refl refl refl refl refl refl refl $
-                  makes-again ! 126 34 32 (room₂ .0) (sym (same-a .1 .1 .1 .0 ∙ len .spare)) refl refl refl refl refl refl refl refl $
-                  makes-again ! 124 30 28 (room₃ .0) (sym (same-a .1 .1 .1 .1 ∙ len .differences)) refl refl refl refl refl refl refl refl $
-                  makes-again ! 120 26 24 (room₅ .0) (sym (same-b ∙ len .shown)) refl refl refl refl refl refl refl refl $
-                  makes-again ! 116 22 20 (room₇ .0) (sym (len .out)) refl refl refl refl refl refl refl refl $
-                  move ! (6 ∷ 7 ∷ 8 ∷ 9 ∷ 10 ∷ 11 ∷ 4 ∷ 5 ∷ 16 ∷ 17 ∷ []) $
-                  prints-on L A B X Y P Printed l a b x y (at s₁ (za .1 .1 .0)) (at s₂ (za .1 .1 .1 .0)) (at s₃ (za .1 .1 .1 .1)) (at s₅ zb) (at s₇ (u .out))
+                  land ! (from ! (stop !)) (init ! 86 refl (y .typed 𝓤 H A′ W (got-y .0) wy (got-y .1 .0))) $
+                  rewrite ! 86 (λ (v : Val). ‵ (fat fullShare (y .ty) l₁₇ 0 v)) (taken .0) refl $
+                  makes-again ! 116 32 30 (room₁ .0) (sym (same-a .1 .1 .0 ∙ len .blocks)) refl refl refl refl refl refl refl refl $
+                  makes-again ! 114 28 26 (room₂ .0) (sym (same-a .1 .1 .1 .0 ∙ len .spare)) refl refl refl refl refl refl refl refl $
+                  makes-again ! 112 24 22 (room₃ .0) (sym (same-a .1 .1 .1 .1 ∙ len .differences)) refl refl refl refl refl refl refl refl $
+                  makes-again ! 106 20 18 (room₆ .0) (sym (len .out)) refl refl refl refl refl refl refl refl $
+                  move ! (4 ∷ 5 ∷ 6 ∷ 7 ∷ 8 ∷ 9 ∷ 14 ∷ 15 ∷ []) $
+                  prints-on L A B X Y P Printed l a b x y (at s₁ (za .1 .1 .0)) (at s₂ (za .1 .1 .1 .0)) (at s₃ (za .1 .1 .1 .1)) (at s₆ (u .out))
                   (got-l .0) (got-a .0) (got-b .0) (got-x .0) (got-y .0) ! (fmOf 𝓤 H (W .laws) 𝓣) known-print (line .1) (answer .1) (told .1) (seen .1)
                   (taken .1) (still u8 room₁ (same-a .1 .1 .0 ∙ len .blocks)) (still u8 room₂ (same-a .1 .1 .1 .0 ∙ len .spare))
-                  (still u8 room₃ (same-a .1 .1 .1 .1 ∙ len .differences)) (still u8 room₅ (same-b ∙ len .shown)) (still u8 room₇ (len .out))
-                  (λ ν₁ ν₂ ν₃ ν₄ ν₅ δ₁ δ₂ δ₃ δ₄ δ₅. (and-then ! (load ! (from ! (stop !)) (look ! 100 refl)) (and-then ! (load ! (from ! (stop !))
-                  (look ! 98 refl)) (and-then ! (load ! (from ! (stop !)) (look ! 96 refl)) (and-then ! (load ! (from ! (stop !)) (look ! 94 refl))
-                  (and-then ! (load ! (from ! (stop !)) (look ! 92 refl)) (and-then ! (load ! (from ! (stop !)) (look ! 32 refl)) (and-then ! (load ! (from !
-                  (stop !)) (look ! 28 refl)) (and-then ! (load ! (from ! (stop !)) (look ! 24 refl)) (and-then ! (load ! (from ! (stop !)) (look ! 20 refl))
-                  (and-then ! (load ! (from ! (stop !)) (look ! 16 refl)) (no-more !)))))))))))) (λ wp zp same-p got-p.
+                  (still u8 room₃ (same-a .1 .1 .1 .1 ∙ len .differences)) (still u8 room₆ (len .out))
+                  (λ ν₁ ν₂ ν₃ ν₄ δ₁ δ₂ δ₃ δ₄. (and-then ! (load ! (from ! (stop !)) (look ! 91 refl)) (and-then ! (load ! (from ! (stop !))
+                  (look ! 89 refl)) (and-then ! (load ! (from ! (stop !)) (look ! 87 refl)) (and-then ! (load ! (from ! (stop !)) (look ! 85 refl))
+                  (and-then ! (load ! (from ! (stop !)) (look ! 83 refl)) (and-then ! (load ! (from ! (stop !)) (look ! 27 refl)) (and-then ! (load !
+                  (from ! (stop !)) (look ! 23 refl)) (and-then ! (load ! (from ! (stop !)) (look ! 19 refl)) (and-then ! (load ! (from ! (stop !))
+                  (look ! 15 refl)) (no-more !))))))))))) (λ wp zp same-p got-p.
                   let good = the-value P p (got-p .0) wp (got-p .1 .0) in
-                  land ! (from ! (stop !)) (init ! 94 refl (p .typed 𝓤 H A′ W (got-p .0) wp (got-p .1 .0))) $
-                  rewrite ! 94 (λ (v : Val). ‵ (fat fullShare (p .ty) l₁₉ 0 v)) (good .0) refl $
-                  assigns-last ! (of-opd ! (load ! (from ! (stop !)) (look ! 94 refl))) (from ! (stop !)) (store ! 106 refl (p .typed 𝓤 H A′ W _ _
+                  land ! (from ! (stop !)) (init ! 84 refl (p .typed 𝓤 H A′ W (got-p .0) wp (got-p .1 .0))) $
+                  rewrite ! 84 (λ (v : Val). ‵ (fat fullShare (p .ty) l₁₈ 0 v)) (good .0) refl $
+                  assigns-last ! (of-opd ! (load ! (from ! (stop !)) (look ! 84 refl))) (from ! (stop !)) (store ! 96 refl (p .typed 𝓤 H A′ W _ _
                   (good .1))) $
-                  move ! (0 ∷ 1 ∷ 2 ∷ 3 ∷ 4 ∷ 5 ∷ 14 ∷ 15 ∷ 6 ∷ 7 ∷ 16 ∷ 17 ∷ 8 ∷ 9 ∷ 12 ∷ 13 ∷ []) $ forget ! 104 refl $ forget ! 102 refl $
-                  forget ! 100 refl $ forget ! 98 refl $ forget ! 96 refl $ forget ! 94 refl $ forget ! 90 refl $ forget ! 88 refl $ forget ! 86 refl $
-                  forget ! 84 refl $ forget ! 82 refl $ forget ! 80 refl $ forget ! 78 refl $ forget ! 76 refl $ forget ! 74 refl $ forget ! 72 refl $
-                  forget ! 70 refl $ forget ! 68 refl $ forget ! 66 refl $ forget ! 64 refl $ forget ! 62 refl $ forget ! 60 refl $ forget ! 58 refl $
-                  forget ! 56 refl $ forget ! 54 refl $ forget ! 52 refl $ forget ! 50 refl $ forget ! 48 refl $ forget ! 46 refl $ forget ! 44 refl $
-                  forget ! 42 refl $ forget ! 40 refl $ forget ! 38 refl $ forget ! 36 refl $ forget ! 34 refl $ forget ! 32 refl $ forget ! 30 refl $
-                  forget ! 28 refl $ forget ! 26 refl $ forget ! 24 refl $ forget ! 22 refl $ forget ! 20 refl $
-                  use0 W (given (Facts (to (got-p .0) (za .1 .1 .0) (za .1 .1 .1 .0) (za .1 .1 .1 .1) (zl .1) zb (zl .0) zp (za .0) (za .1 .0))) (‵ ftrue))
-                  (guardI 𝓤 (Facts (to (got-p .0) (za .1 .1 .0) (za .1 .1 .1 .0) (za .1 .1 .1 .1) (zl .1) zb (zl .0) zp (za .0) (za .1 .0))) (emp 𝓤) (
+                  move ! (0 ∷ 1 ∷ 2 ∷ 3 ∷ 4 ∷ 5 ∷ 12 ∷ 13 ∷ 14 ∷ 15 ∷ 6 ∷ 7 ∷ 10 ∷ 11 ∷ []) $ forget ! 94 refl $ forget ! 92 refl $ forget ! 90 refl $
+                  forget ! 88 refl $ forget ! 86 refl $ forget ! 84 refl $ forget ! 80 refl $ forget ! 78 refl $ forget ! 76 refl $ forget ! 74 refl $
+                  forget ! 72 refl $ forget ! 70 refl $ forget ! 68 refl $ forget ! 66 refl $ forget ! 64 refl $ forget ! 62 refl $ forget ! 60 refl $
+                  forget ! 58 refl $ forget ! 56 refl $ forget ! 54 refl $ forget ! 52 refl $ forget ! 50 refl $ forget ! 48 refl $ forget ! 46 refl $
+                  forget ! 44 refl $ forget ! 42 refl $ forget ! 40 refl $ forget ! 38 refl $ forget ! 36 refl $ forget ! 34 refl $ forget ! 32 refl $
+                  forget ! 30 refl $ forget ! 28 refl $ forget ! 26 refl $ forget ! 24 refl $ forget ! 22 refl $ forget ! 20 refl $ forget ! 18 refl $
+                  use0 W (given (Facts (to (got-p .0) (za .1 .1 .0) (za .1 .1 .1 .0) (za .1 .1 .1 .1) (zl .1) (zl .0) zp (za .0) (za .1 .0))) (‵ ftrue))
+                  (guardI 𝓤 (Facts (to (got-p .0) (za .1 .1 .0) (za .1 .1 .1 .0) (za .1 .1 .1 .1) (zl .1) (zl .0) zp (za .0) (za .1 .0))) (emp 𝓤) (
                     good .1,
                     record {
                       blocks = same-a .1 .1 .0 ∙ len .blocks;
                       spare = same-a .1 .1 .1 .0 ∙ len .spare;
-                      differences = same-a .1 .1 .1 .1 ∙
-                          len .differences;
+                      differences = same-a .1 .1 .1 .1 ∙ len .differences;
                       value = same-l .1 ∙ len .value;
-                      shown = same-b ∙ len .shown;
                       buffer = same-l .0 ∙ len .buffer;
-                      out = same-p ∙ len
-                          .out;
+                      out = same-p ∙ len .out;
                       ns = same-a .0 ∙ len .ns;
                       cs = same-a .1 .0 ∙ len .cs;
                     },
                   )) $
-                  again ! Fewer Inv u (to (got-p .0) (za .1 .1 .0) (za .1 .1 .1 .0) (za .1 .1 .1 .1) (zl .1) zb (zl .0) zp (za .0) (za .1 .0))
-                  (less (leftP (u .p)) (leftL (got-l .0)) (leftP (got-p .0)) more (fewer _ _ _ _ _ _ (got-l .1 .1)) (fewest _ _ _ _ _ _ _ _ _ _ _ _
+                  again ! Fewer Inv u (to (got-p .0) (za .1 .1 .0) (za .1 .1 .1 .0) (za .1 .1 .1 .1) (zl .1) (zl .0) zp (za .0) (za .1 .0))
+                  (less (leftP (u .p)) (leftL (got-l .0)) (leftP (got-p .0)) more (fewer _ _ _ _ _ _ (got-l .1 .1)) (fewest _ _ _ _ _ _ _ _ _ _ _
                   (got-p .1 .1)))))))))
                 where
                   p-is : Is P (u .p) (p .val (u .p) ∷ [])
@@ -961,12 +929,12 @@ module _ (N C P L A B X Y : RattleType) (FN : Table N) (FC : Table C) (p : Rec P
               unfolding afterTurn
               turns u facts =
                   asks ! P bool p GoesOn (fmOf 𝓤 H (W .laws) 𝓣) known-goes-on (u .p) (p .val (u .p)) (facts .0) (and-then ! (load ! (from ! (stop !))
-                  (look ! 107 refl)) (no-more !)) (λ wg goes.
-                  land ! (from ! (stop !)) (init ! 92 refl (bool-lawful 𝓤 H A′ W .typed (goes .0) (wg ∷ []) (goes .1 .0) .0)) $
-                  rewrite ! 92 (λ (v : Val). ‵ (fat fullShare tyBool l₂₀ 0 v)) (truth wg goes ∙ ap vbool (goes .1 .1)) refl $
-                  first ! $ branches ! (load ! (from ! (stop !)) (look ! 92 refl))
-                  (λ more. skips ! $ exec ! (𝓣 .C) (𝓣 .Λ) E played (Turn u) $ forget ! 92 refl $ playing u facts more)
-                  (λ past. jumps ! $ exec ! (𝓣 .C) (𝓣 .Λ) E rest (atRet E Post) $ forget ! 92 refl $ ending u facts (none past)))
+                  (look ! 97 refl)) (no-more !)) (λ wg goes.
+                  land ! (from ! (stop !)) (init ! 82 refl (bool-lawful 𝓤 H A′ W .typed (goes .0) (wg ∷ []) (goes .1 .0) .0)) $
+                  rewrite ! 82 (λ (v : Val). ‵ (fat fullShare tyBool l₁₉ 0 v)) (truth wg goes ∙ ap vbool (goes .1 .1)) refl $
+                  first ! $ branches ! (load ! (from ! (stop !)) (look ! 82 refl))
+                  (λ more. skips ! $ exec ! (𝓣 .C) (𝓣 .Λ) E played (Turn u) $ forget ! 82 refl $ playing u facts more)
+                  (λ past. jumps ! $ exec ! (𝓣 .C) (𝓣 .Λ) E rest (atRet E Post) $ forget ! 82 refl $ ending u facts (none past)))
                 where
                   none : T (not (ltb 0 (leftP (u .p)))) → leftP (u .p) ≡ 0
                   none past = omega (arith, nltb→le 0 (leftP (u .p)) past)
@@ -981,7 +949,6 @@ module _ (N C P L A B X Y : RattleType) (FN : Table N) (FC : Table C) (p : Rec P
                       spare = refl;
                       differences = refl;
                       value = refl;
-                      shown = refl;
                       buffer = refl;
                       out = refl;
                       ns = refl;
@@ -992,51 +959,48 @@ module _ (N C P L A B X Y : RattleType) (FN : Table N) (FC : Table C) (p : Rec P
 
             walk : ent 𝓤 (onEntry 𝓤 H A′ (play-ended .signature) lfts shares-of args vals) (WpFn 𝓤 H (𝓣 .C) (𝓣 .Λ) function passes Post)
             walk =
-                qed W ((‵ (Token s₁) ⊛ (‵ (Token s₂) ⊛ (‵ (Token s₃) ⊛ (‵ (Token s₄) ⊛ (‵ (Token s₅) ⊛ (‵ (Token s₆) ⊛ (‵ (Token s₇) ⊛ ‵ ftrue))))))) ∷
+                qed W ((‵ (Token s₁) ⊛ (‵ (Token s₂) ⊛ (‵ (Token s₃) ⊛ (‵ (Token s₄) ⊛ (‵ (Token s₅) ⊛ (‵ (Token s₆) ⊛ ‵ ftrue)))))) ∷
                 ‵ (owns (MutSlice (named 0) (s₁ .κ) u8 ∷ MutSlice (named 1) (s₂ .κ) u8 ∷ MutSlice (named 2) (s₃ .κ) u8 ∷ MutSlice (named 3) (s₄ .κ) u8 ∷
-                MutSlice (named 4) (s₅ .κ) u8 ∷ MutSlice (named 5) (s₆ .κ) u8 ∷ MutSlice (named 6) (s₇ .κ) u8 ∷ N ∷ C ∷ P ∷ []) args vals) ∷ []) ∵
+                MutSlice (named 4) (s₅ .κ) u8 ∷ MutSlice (named 5) (s₆ .κ) u8 ∷ N ∷ C ∷ P ∷ []) args vals) ∷ []) ∵
                 split ! $ move ! (1 ∷ []) $ split ! $ move ! (1 ∷ []) $ split ! $ move ! (1 ∷ []) $ split ! $ move ! (1 ∷ []) $ split ! $ move ! (1 ∷ []) $
-                split ! $ move ! (1 ∷ []) $ split ! $ move ! (1 ∷ []) $ drop ! $ move ! (7 ∷ []) $ fsplit ! $ move ! (1 ∷ []) $ fsplit ! $ move ! (1 ∷ []) $
-                fsplit ! $ move ! (1 ∷ []) $ fsplit ! $ move ! (1 ∷ []) $ fsplit ! $ move ! (1 ∷ []) $ fsplit ! $ move ! (1 ∷ []) $ fsplit ! $
-                move ! (1 ∷ []) $ drop ! $ move ! (13 ∷ 6 ∷ 12 ∷ 5 ∷ 11 ∷ 4 ∷ 10 ∷ 3 ∷ 9 ∷ 2 ∷ 8 ∷ 1 ∷ 7 ∷ []) $
+                split ! $ move ! (1 ∷ []) $ drop ! $ move ! (6 ∷ []) $ fsplit ! $ move ! (1 ∷ []) $ fsplit ! $ move ! (1 ∷ []) $ fsplit ! $ move ! (1 ∷ []) $
+                fsplit ! $ move ! (1 ∷ []) $ fsplit ! $ move ! (1 ∷ []) $ fsplit ! $ move ! (1 ∷ []) $ drop ! $
+                move ! (11 ∷ 5 ∷ 10 ∷ 4 ∷ 9 ∷ 3 ∷ 8 ∷ 2 ∷ 7 ∷ 1 ∷ 6 ∷ []) $
                 enter ! (𝓣 .C) (𝓣 .Λ) function passes Post $
-                alloc1 ! (λ l₀. alloc1 ! (λ l₁. alloc1 ! (λ l₂. alloc1 ! (λ l₃. alloc1 ! (λ l₄. alloc1 ! (λ l₅. alloc1 ! (λ l₆. alloc1 ! (λ l₇. alloc1 !
-                (λ l₈. alloc1 ! (λ l₉. alloc1 ! (λ l₁₀. alloc1 ! (λ l₁₁. alloc1 ! (λ l₁₂. alloc1 ! (λ l₁₃. alloc1 ! (λ l₁₄. alloc1 ! (λ l₁₅. alloc1 !
-                (λ l₁₆. alloc1 ! (λ l₁₇. alloc1 ! (λ l₁₈. alloc1 ! (λ l₁₉. alloc1 ! (λ l₂₀. alloc1 ! (λ l₂₁. alloc1 ! (λ l₂₂. alloc1 ! (λ l₂₃. alloc1 !
-                (λ l₂₄. alloc1 ! (λ l₂₅. alloc1 ! (λ l₂₆. alloc1 ! (λ l₂₇. alloc1 ! (λ l₂₈. alloc1 ! (λ l₂₉. alloc1 ! (λ l₃₀. alloc1 ! (λ l₃₁. alloc1 !
-                (λ l₃₂. alloc1 ! (λ l₃₃. alloc1 ! (λ l₃₄. alloc1 ! (λ l₃₅. alloc1 ! (λ l₃₆. alloc1 ! (λ l₃₇. alloc1 ! (λ l₃₈. alloc1 ! (λ l₃₉. alloc1 !
-                (λ l₄₀. alloc1 ! (λ l₄₁. alloc1 ! (λ l₄₂. alloc1 ! (λ l₄₃. alloc1 ! (λ l₄₄. alloc1 ! (λ l₄₅. alloc1 ! (λ l₄₆. alloc1 ! (λ l₄₇. alloc1 !
-                (λ l₄₈. alloc1 ! (λ l₄₉. alloc1 ! (λ l₅₀. alloc1 ! (λ l₅₁. alloc1 ! (λ l₅₂. alloc1 ! (λ l₅₃. alloc1 ! (λ l₅₄. alloc1 ! (λ l₅₅. alloc1 !
-                (λ l₅₆. alloc0 ! $ params1 ! $
-                pass1 ! (init ! 110 refl (tt, (tt, (record { fits = room₁ .0 }, tt)))) $
-                pass1 ! (init ! 108 refl (tt, (tt, (record { fits = room₂ .0 }, tt)))) $
-                pass1 ! (init ! 106 refl (tt, (tt, (record { fits = room₃ .0 }, tt)))) $
-                pass1 ! (init ! 104 refl (tt, (tt, (record { fits = room₄ .0 }, tt)))) $
-                pass1 ! (init ! 102 refl (tt, (tt, (record { fits = room₅ .0 }, tt)))) $
-                pass1 ! (init ! 100 refl (tt, (tt, (record { fits = room₆ .0 }, tt)))) $
-                pass1 ! (init ! 98 refl (tt, (tt, (record { fits = room₇ .0 }, tt)))) $
-                pass1 ! (init ! 96 refl (FN .r .typed 𝓤 H A′ W n₀ _ n₀-is)) $ pass1 ! (init ! 94 refl (FC .r .typed 𝓤 H A′ W c₀ _ c₀-is)) $
-                pass1 ! (init ! 92 refl (p .typed 𝓤 H A′ W p₀ _ p₀-is)) $ pass0 ! $
-                assigns ! (fills ! (FN .n) (load ! (from ! (stop !)) (look ! 96 refl))) (from ! (stop !)) (init ! 90 refl (array-typed-at N FN 𝓤 H A′ W
+                alloc1 ! (λ l₀. alloc1 ! (λ l₁. alloc1 ! (λ l₂. alloc1 ! (λ l₃. alloc1 ! (λ l₄. alloc1 ! (λ l₅. alloc1 ! (λ l₆. alloc1 ! (λ l₇.
+                alloc1 ! (λ l₈. alloc1 ! (λ l₉. alloc1 ! (λ l₁₀. alloc1 ! (λ l₁₁. alloc1 ! (λ l₁₂. alloc1 ! (λ l₁₃. alloc1 ! (λ l₁₄. alloc1 ! (λ l₁₅.
+                alloc1 ! (λ l₁₆. alloc1 ! (λ l₁₇. alloc1 ! (λ l₁₈. alloc1 ! (λ l₁₉. alloc1 ! (λ l₂₀. alloc1 ! (λ l₂₁. alloc1 ! (λ l₂₂. alloc1 ! (λ l₂₃.
+                alloc1 ! (λ l₂₄. alloc1 ! (λ l₂₅. alloc1 ! (λ l₂₆. alloc1 ! (λ l₂₇. alloc1 ! (λ l₂₈. alloc1 ! (λ l₂₉. alloc1 ! (λ l₃₀. alloc1 ! (λ l₃₁.
+                alloc1 ! (λ l₃₂. alloc1 ! (λ l₃₃. alloc1 ! (λ l₃₄. alloc1 ! (λ l₃₅. alloc1 ! (λ l₃₆. alloc1 ! (λ l₃₇. alloc1 ! (λ l₃₈. alloc1 ! (λ l₃₉.
+                alloc1 ! (λ l₄₀. alloc1 ! (λ l₄₁. alloc1 ! (λ l₄₂. alloc1 ! (λ l₄₃. alloc1 ! (λ l₄₄. alloc1 ! (λ l₄₅. alloc1 ! (λ l₄₆. alloc1 ! (λ l₄₇.
+                alloc1 ! (λ l₄₈. alloc1 ! (λ l₄₉. alloc1 ! (λ l₅₀. alloc1 ! (λ l₅₁. alloc0 ! $ params1 ! $
+                pass1 ! (init ! 100 refl (tt, (tt, (record { fits = room₁ .0 }, tt)))) $
+                pass1 ! (init ! 98 refl (tt, (tt, (record { fits = room₂ .0 }, tt)))) $
+                pass1 ! (init ! 96 refl (tt, (tt, (record { fits = room₃ .0 }, tt)))) $
+                pass1 ! (init ! 94 refl (tt, (tt, (record { fits = room₄ .0 }, tt)))) $
+                pass1 ! (init ! 92 refl (tt, (tt, (record { fits = room₅ .0 }, tt)))) $
+                pass1 ! (init ! 90 refl (tt, (tt, (record { fits = room₆ .0 }, tt)))) $
+                pass1 ! (init ! 88 refl (FN .r .typed 𝓤 H A′ W n₀ _ n₀-is)) $ pass1 ! (init ! 86 refl (FC .r .typed 𝓤 H A′ W c₀ _ c₀-is)) $
+                pass1 ! (init ! 84 refl (p .typed 𝓤 H A′ W p₀ _ p₀-is)) $ pass0 ! $
+                assigns ! (fills ! (FN .n) (load ! (from ! (stop !)) (look ! 88 refl))) (from ! (stop !)) (init ! 82 refl (array-typed-at N FN 𝓤 H A′ W
                 (equal N FN n₀) _ (equal-is N FN n₀ _ n₀-is) .0)) $
-                assigns ! (fills ! (FC .n) (load ! (from ! (stop !)) (look ! 94 refl))) (from ! (stop !)) (init ! 88 refl (array-typed-at C FC 𝓤 H A′ W
+                assigns ! (fills ! (FC .n) (load ! (from ! (stop !)) (look ! 86 refl))) (from ! (stop !)) (init ! 80 refl (array-typed-at C FC 𝓤 H A′ W
                 (equal C FC c₀) _ (equal-is C FC c₀ _ c₀-is) .0)) $
-                assigns ! (of-opd ! (load ! (from ! (stop !)) (look ! 92 refl))) (from ! (stop !)) (init ! 86 refl (p .typed 𝓤 H A′ W p₀ _ p₀-is)) $
-                move ! (88 ∷ []) $
-                owns-table C FC ! tt c₀ _ c₀-is l₁₂ (λ νC δC. move ! (92 ∷ []) $
-                owns-table N FN ! tt n₀ _ n₀-is l₁₁ (λ νN δN.
-                move ! (118 ∷ 119 ∷ 120 ∷ 121 ∷ 122 ∷ 123 ∷ 124 ∷ 125 ∷ 126 ∷ 127 ∷ 128 ∷ 129 ∷ 130 ∷ 131 ∷ 0 ∷ 1 ∷ 3 ∷ 4 ∷ []) $
+                assigns ! (of-opd ! (load ! (from ! (stop !)) (look ! 84 refl))) (from ! (stop !)) (init ! 78 refl (p .typed 𝓤 H A′ W p₀ _ p₀-is)) $
+                move ! (80 ∷ []) $
+                owns-table C FC ! tt c₀ _ c₀-is l₁₁ (λ νC δC. move ! (84 ∷ []) $
+                owns-table N FN ! tt n₀ _ n₀-is l₁₀ (λ νN δN.
+                move ! (108 ∷ 109 ∷ 110 ∷ 111 ∷ 112 ∷ 113 ∷ 114 ∷ 115 ∷ 116 ∷ 117 ∷ 118 ∷ 119 ∷ 0 ∷ 1 ∷ 3 ∷ 4 ∷ []) $
                 goes νN νC δN δC l₀ l₁ l₂ l₃ l₄ l₅ l₆ l₇ l₈ l₉ l₁₀ l₁₁ l₁₂ l₁₃ l₁₄ l₁₅ l₁₆ l₁₇ l₁₈ l₁₉ l₂₀ l₂₁ l₂₂ l₂₃ l₂₄ l₂₅ l₂₆ l₂₇ l₂₈ l₂₉ l₃₀ l₃₁ l₃₂
-                l₃₃ l₃₄ l₃₅ l₃₆ l₃₇ l₃₈ l₃₉ l₄₀ l₄₁ l₄₂ l₄₃ l₄₄ l₄₅ l₄₆ l₄₇ l₄₈ l₄₉ l₅₀ l₅₁ l₅₂ l₅₃ l₅₄ l₅₅
-                l₅₆)))))))))))))))))))))))))))))))))))))))))))))))))))))))))))
+                l₃₃ l₃₄ l₃₅ l₃₆ l₃₇ l₃₈ l₃₉ l₄₀ l₄₁ l₄₂ l₄₃ l₄₄ l₄₅ l₄₆ l₄₇ l₄₈ l₄₉ l₅₀ l₅₁))))))))))))))))))))))))))))))))))))))))))))))))))))))
 
           pub meets : (𝓣 : Tables 𝓤 H) → Triple 𝓤 (𝓣 .C #goes-on) (Ask P bool GoesOn 𝓤 H A′) → Triple 𝓤 (𝓣 .C #next) (Next P L Nexts 𝓤 H A′)
-              → Triple 𝓤 (𝓣 .C #call) (Entry N C L A Called 𝓤 H A′) → Triple 𝓤 (𝓣 .C #read) (Go N L B Read 𝓤 H A′)
+              → Triple 𝓤 (𝓣 .C #call) (Entry N C L A Called 𝓤 H A′) → Triple 𝓤 (𝓣 .C #read) (Go N C L B Read 𝓤 H A′)
               → Triple 𝓤 (𝓣 .C #see) (Take nodes-seen 𝓤 H A′) → Triple 𝓤 (𝓣 .C #take) (Take clients-seen 𝓤 H A′)
               → Triple 𝓤 (𝓣 .C #print) (Print L A B X Y P Printed 𝓤 H A′)
               → Meets 𝓤 H A′ (play-ended .signature) (WpFn 𝓤 H (𝓣 .C) (𝓣 .Λ) function) (closing 𝓤 H A′ play-ended (play-clauses 𝓤))
           meets 𝓣 known-goes-on known-next known-call known-read known-see known-take known-print =
-              walk-meets 𝓤 H A′ play-ended stayed W (slice 0 tt, (slice 1 tt, (slice 2 tt, (slice 3 tt, (slice 4 tt, (slice 5 tt, (slice 6 tt, none)))))))
+              walk-meets 𝓤 H A′ play-ended stayed W (slice 0 tt, (slice 1 tt, (slice 2 tt, (slice 3 tt, (slice 4 tt, (slice 5 tt, none))))))
               (play-clauses 𝓤) (WpFn 𝓤 H (𝓣 .C) (𝓣 .Λ) function) (WpFn-mono 𝓤 H (W .laws) 𝓣 function)
               (walked 𝓤 H A′ play-ended stayed (play-clauses 𝓤) (WpFn 𝓤 H (𝓣 .C) (𝓣 .Λ) function)
               (λ κs. (
@@ -1052,10 +1016,10 @@ module _ (N C P L A B X Y : RattleType) (FN : Table N) (FC : Table C) (p : Rec P
                         (
                           slice-vals,
                           (
-                            slice-vals,
+                            λ n. FN .r .val n ∷ [],
                             (
-                              λ n. FN .r .val n ∷ [],
-                              (λ c. FC .r .val c ∷ [], (λ q. p .val q ∷ [], tt)),
+                              λ c. FC .r .val c ∷ [],
+                              (λ q. p .val q ∷ [], tt),
                             ),
                           ),
                         ),
@@ -1077,7 +1041,7 @@ module _ (N C P L A B X Y : RattleType) (FN : Table N) (FC : Table C) (p : Rec P
                         (
                           mut-slice-tells (named 5)
                               (κs .1 .1 .1 .1 .1 .0) u8,
-                          (mut-slice-tells (named 6) (κs .1 .1 .1 .1 .1 .1 .0) u8, (FN .r .tells, (FC .r .tells, (p .tells, tt)))),
+                          (FN .r .tells, (FC .r .tells, (p .tells, tt))),
                         ),
                       ),
                     ),
@@ -1085,30 +1049,24 @@ module _ (N C P L A B X Y : RattleType) (FN : Table N) (FC : Table C) (p : Rec P
                 ),
               ))
               (λ κs qs bounds a g are. via 𝓤 _ (fst∗ 𝓤 _ (emp 𝓤)) (walk 𝓣 known-goes-on known-next known-call known-read known-see known-take known-print
-              (record { κ = κs .0; q = qs .0; s = a .0 }) (record { κ = κs .1 .0; q = qs .1 .0; s = a .1 .0 }) (record {
-                κ = κs .1 .1 .0;
-                q = qs .1 .1 .0;
-                s
-                    = a .1 .1 .0;
-              }) (record { κ = κs .1 .1 .1 .0; q = qs .1 .1 .1 .0; s = a .1 .1 .1 .0 }) (record {
-                κ = κs .1 .1 .1 .1 .0;
-                q = qs .1 .1 .1 .1 .0;
-                s = a .1 .1 .1 .1 .0;
-              }) (record { κ = κs .1 .1 .1 .1 .1 .0; q = qs .1 .1 .1 .1 .1 .0; s = a .1 .1 .1 .1 .1 .0 })
-              (record { κ = κs .1 .1 .1 .1 .1 .1 .0; q = qs .1 .1 .1 .1 .1 .1 .0; s = a .1 .1 .1 .1 .1 .1 .0 })
-              (a .1 .1 .1 .1 .1 .1 .1 .0) (a .1 .1 .1 .1 .1 .1 .1 .1 .0) (a .1 .1 .1 .1 .1 .1 .1 .1 .1 .0) (are .1 .1 .1 .1 .1 .1 .1 .0)
-              (are .1 .1 .1 .1 .1 .1 .1 .1 .0) (are .1 .1 .1 .1 .1 .1 .1 .1 .1 .0)
-              (are .0 .0 .1) (are .1 .0 .0 .1) (are .1 .1 .0 .0 .1) (are .1 .1 .1 .0 .0 .1) (are .1 .1 .1 .1 .0 .0 .1) (are .1 .1 .1 .1 .1 .0 .0 .1)
-              (are .1 .1 .1 .1 .1 .1 .0 .0 .1))))
+              (record { κ = κs .0; q = qs .0; s = a .0 })
+              (record { κ = κs .1 .0; q = qs .1 .0; s = a .1 .0 })
+              (record { κ = κs .1 .1 .0; q = qs .1 .1 .0; s = a .1 .1 .0 })
+              (record { κ = κs .1 .1 .1 .0; q = qs .1 .1 .1 .0; s = a .1 .1 .1 .0 })
+              (record { κ = κs .1 .1 .1 .1 .0; q = qs .1 .1 .1 .1 .0; s = a .1 .1 .1 .1 .0 })
+              (record { κ = κs .1 .1 .1 .1 .1 .0; q = qs .1 .1 .1 .1 .1 .0; s = a .1 .1 .1 .1 .1 .0 })
+              (a .1 .1 .1 .1 .1 .1 .0) (a .1 .1 .1 .1 .1 .1 .1 .0) (a .1 .1 .1 .1 .1 .1 .1 .1 .0) (are .1 .1 .1 .1 .1 .1 .0) (are .1 .1 .1 .1 .1 .1 .1 .0)
+              (are .1 .1 .1 .1 .1 .1 .1 .1 .0)
+              (are .0 .0 .1) (are .1 .0 .0 .1) (are .1 .1 .0 .0 .1) (are .1 .1 .1 .0 .0 .1) (are .1 .1 .1 .1 .0 .0 .1) (are .1 .1 .1 .1 .1 .0 .0 .1))))
             where
-              slice : (j : ℕ) (ok : AllWithin 7 (j ∷ [])) → Goes 𝓤 H A′ W 7 (mutSliceOf (j ∷ []) ok (plain (λ _. u8))) yes (stay j ok)
-              slice j ok = goes-slice 𝓤 H A′ W 7 j ok (plain (λ _. u8))
+              slice : (j : ℕ) (ok : AllWithin 6 (j ∷ [])) → Goes 𝓤 H A′ W 6 (mutSliceOf (j ∷ []) ok (plain (λ _. u8))) yes (stay j ok)
+              slice j ok = goes-slice 𝓤 H A′ W 6 j ok (plain (λ _. u8))
 
-              none : AllGo 𝓤 H A′ W 7 (plain (λ _. N) ∷ plain (λ _. C) ∷ plain (λ _. P) ∷ []) (yes, (yes, (yes, tt))) own-stayed
+              none : AllGo 𝓤 H A′ W 6 (plain (λ _. N) ∷ plain (λ _. C) ∷ plain (λ _. P) ∷ []) (yes, (yes, (yes, tt))) own-stayed
               none = (
-                goes-none 𝓤 H A′ W 7 (λ _. N) yes (λ _. FN .r .silent),
+                goes-none 𝓤 H A′ W 6 (λ _. N) yes (λ _. FN .r .silent),
                 (
-                  goes-none 𝓤 H A′ W 7 (λ _. C) yes (λ _. FC .r .silent),
-                  (goes-none 𝓤 H A′ W 7 (λ _. P) yes (λ _. p .silent), tt),
+                  goes-none 𝓤 H A′ W 6 (λ _. C) yes (λ _. FC .r .silent),
+                  (goes-none 𝓤 H A′ W 6 (λ _. P) yes (λ _. p .silent), tt),
                 ),
               )

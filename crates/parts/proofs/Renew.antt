@@ -50,8 +50,7 @@ use Rattle.lent.proofs.Elem.{Rec, rec-uint}
 use Rattle.lent.proofs.Entry.{Loan, Token, Mut, Left, list, valOf}
 use Rattle.lent.proofs.Frees.{gone}
 use Rattle.lent.proofs.Pure.{Got, calls-given, gives}
-use Rattle.lent.proofs.Side.{Side, Back, Put, endsAs, puts, the-value}
-use Rattle.parts.proofs.Asks.{Ask4, asks4}
+use Rattle.lent.proofs.Side.{Side, Back, Put, Ask4, endsAs, puts, asks4, the-value}
 
 -- ---- a table is changed by the value
 

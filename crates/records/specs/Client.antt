@@ -86,6 +86,15 @@ hasRebuild (Writing x set e) = true
 hasRebuild (Settling x e) = true
 hasRebuild (Unlocking x) = true
 
+-- C-15: "whose pick was accepted in the rebuild it now has": it writes, settles or unlocks
+abbrev pub hasPicked : Rebuild → Bool
+hasPicked NoRebuild = false
+hasPicked (Locking old) = false
+hasPicked (Picking t) = false
+hasPicked (Writing x set e) = true
+hasPicked (Settling x e) = true
+hasPicked (Unlocking x) = true
+
 -- the old lmodes of the nodes locked so far
 abbrev pub remembered : Rebuild → List Lmode
 remembered NoRebuild = []

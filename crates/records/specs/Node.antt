@@ -81,6 +81,14 @@ abbrev pub isHolder : ℕ → Holder → Bool
 isHolder c Nobody = false
 isHolder c (Client d) = eqb c d
 
+-- the client that holds a node, 0 if none does
+abbrev pub holderNumber : Holder → ℕ
+holderNumber Nobody = 0
+holderNumber (Client c) = c
+
+abbrev pub holderOf : Node → ℕ
+holderOf x = holderNumber (x .holder)
+
 -- "needs node i NORM and UNL"
 abbrev pub isFree : Node → Bool
 isFree x = isNorm (x .opmode) && isUnl (x .lmode)

@@ -105,6 +105,12 @@ pub enum ClientCall {
     Quit,
 }
 
+// Where the block lies that a read shows: in the live table, or in the spare of a rebuild.
+pub enum Source {
+    Live,
+    Spare,
+}
+
 // Why a call is refused.
 pub enum Refusal {
     OutOfLimits,

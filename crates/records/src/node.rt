@@ -5,7 +5,7 @@ ghost use Prim.Native.Nat.{_<_, _≤_};
 ghost use Rattle.code.specs.View.{nodeSetOf};
 ghost use Rattle.entries.specs.Entries.{entryLimit, finishedLimit, discard, markOld};
 ghost use Rattle.entries.specs.View.{idsOf};
-ghost use Rattle.records.specs.Node.{epochLimit, freshNode, failedNode, isNorm, isRecons, isInit, isUnl, isExp, isL0, isL1, isHolder, isFree, takesAdd, heldBy, heldAtL1, withEntries, withLmode, entered, lockedBy, weakenedBy, unlocked, expiredFor, givenBack, written, settled, ticked, isDue, holderWithin, nodeWithin};
+ghost use Rattle.records.specs.Node.{epochLimit, freshNode, failedNode, isNorm, isRecons, isInit, isUnl, isExp, isL0, isL1, isHolder, holderNumber, holderOf, isFree, takesAdd, heldBy, heldAtL1, withEntries, withLmode, entered, lockedBy, weakenedBy, unlocked, expiredFor, givenBack, written, settled, ticked, isDue, holderWithin, nodeWithin};
 ghost use Rattle.records.specs.NodeSteps.{MeetsAtNode, emptyNode, enterAnswer, readAnswer, swapAnswer, afterPrevious, addAnswer, sweepAnswer, lockAnswer, heldAnswer, weakenAnswer, tickAnswer, checkAnswer};
 ghost use Rattle.records.specs.View.{nodeOf};
 use crate::CheckAnswer;
@@ -125,6 +125,15 @@ impl Holder {
         }
     }
 
+    fn number(self) -> u8
+        ensures { λ r. ⌜ r ≡ holderNumber self ⌝ }
+    {
+        match self {
+            Holder::Nobody => 0,
+            Holder::Client(c) => c,
+        }
+    }
+
     // A holder at L0 and L1 alone, and it is one of the clients.
     fn is_within(self, lmode: Lmode, z: Sizes) -> bool
         ensures { λ r. ⌜ r ≡ holderWithin z lmode self ⌝ }
@@ -197,6 +206,14 @@ impl NodeRecord {
         let lmode = self.lmode;
         let holder = self.holder;
         lmode.is_l1() && holder.is(c)
+    }
+
+    // The client that holds it, 0 if none does.
+    pub fn holder_number(self) -> u8
+        ensures { λ r. ⌜ r ≡ holderOf (nodeOf self) ⌝ }
+    {
+        let holder = self.holder;
+        holder.number()
     }
 
     pub fn is_due(self) -> bool

@@ -1,3 +1,4 @@
+pub mod Parts
 pub mod Products
 pub mod Within
 pub mod Renewing

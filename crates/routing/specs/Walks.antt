@@ -1,14 +1,18 @@
 -- A call on its way over the stripes: the volume's own tests, the stripes that it goes to, what it is in each. Assumes nothing.
 use mathlib.Core.Bool.{Bool, true, false, cond, _&&_, _||_, not}
+use mathlib.Core.List.{List}
 use mathlib.Core.Path.{_≡_}
 use Prim.Native.Nat.{ℕ, suc, _+_, _%_, _<_}
 use lib.Dec.{eqb, leb, ltb}
+use lib.ListN.{length}
 use Rattle.calls.specs.declared.Answer.{Answer}
 use Rattle.calls.specs.declared.Answer.the-variants.{Accepted, Refused}
 use Rattle.calls.specs.declared.StepCall.{StepCall}
 use Rattle.calls.specs.declared.StepCall.the-variants.{Swap, Fail, Due, Tick, At, By}
+use Rattle.calls.specs.Answers.{shownPart}
 use Rattle.calls.specs.Calls.{caller}
 use Rattle.layout.specs.Layout.{nodeFor}
+use Rattle.parts.specs.Inside.{partIn}
 use Rattle.records.specs.declared.ClientRecord.{ClientRecord}
 use Rattle.records.specs.declared.NodeRecord.{NodeRecord}
 use Rattle.records.specs.declared.Refusal.the-variants.{OutOfLimits, OutOfRange}
@@ -18,17 +22,18 @@ use Rattle.records.specs.Node.{nodeWithin}
 use Rattle.records.specs.Sizes.{sizesWithin}
 use Rattle.records.specs.View.{clientOf, nodeOf}
 use Rattle.taking.specs.declared.PickRequest.{PickRequest}
-use Rattle.taking.specs.declared.ReadRequest.{ReadRequest}
+use Rattle.taking.specs.declared.SizedRead.{SizedRead}
 use Rattle.taking.specs.declared.Request.{Request}
 use Rattle.volume.specs.Volume.{isStop}
 use Rattle.routing.specs.declared.ReadRequest as read
+use Rattle.routing.specs.declared.SizedRead as sized
 use Rattle.routing.specs.declared.ReadWalk.{ReadWalk}
 use Rattle.routing.specs.declared.Request as request
 use Rattle.routing.specs.declared.Volume.{Volume}
 use Rattle.routing.specs.declared.VolumeCall.{VolumeCall}
 use Rattle.routing.specs.declared.VolumeCall.the-variants.{Pick, Step}
 use Rattle.routing.specs.declared.Walk.{Walk}
-use Rattle.routing.specs.Parts.{lengthsOf, partFrom, partTo, volumeWithin}
+use Rattle.routing.specs.Parts.{lengthsOf, partFrom, partOf, partTo, tableBlocks, volumeWithin}
 
 -- ---- the calls
 
@@ -181,17 +186,21 @@ valueTo w len = cond (isFailureCall (w .call)) (partTo (w .at) (w .volume .z .b)
 
 -- ---- a read
 
+abbrev pub sizedOf : read.ReadRequest → ℕ → ℕ → sized.SizedRead
+sizedOf q blocks spare = record { volume = q .volume; stripe = q .stripe; i = q .i; blocks = blocks; spare = spare }
+
 abbrev pub readWalk : Volume → ℕ → ℕ → Bool → Answer → ReadWalk
 readWalk volume i at goes answer = record { volume = volume; i = i; at = at; goes = goes; answer = answer }
 
-abbrev pub readFits : read.ReadRequest → ℕ → ℕ → ℕ → Bool
-readFits q nodes out blocks =
+abbrev pub readFits : sized.SizedRead → ℕ → ℕ → Bool
+readFits q nodes clients =
     let lengths = lengthsOf (q .volume) in
-    volumeWithin (q .volume) && (eqb nodes (lengths .nodes) && (eqb out (q .volume .z .b) && eqb blocks (lengths .blocks)))
+    volumeWithin (q .volume) && (eqb nodes (lengths .nodes) && (eqb clients (lengths .clients)
+    && (eqb (q .blocks) (lengths .blocks) && eqb (q .spare) (lengths .blocks))))
 
-abbrev pub readBegunOf : read.ReadRequest → ℕ → ℕ → ℕ → ReadWalk
-readBegunOf q nodes out blocks =
-    cond (readFits q nodes out blocks)
+abbrev pub readBegunOf : sized.SizedRead → ℕ → ℕ → ReadWalk
+readBegunOf q nodes clients =
+    cond (readFits q nodes clients)
     (cond (leb (q .volume .stripes) (q .stripe)) (readWalk (q .volume) (q .i) 0 false (Refused OutOfRange))
     (readWalk (q .volume) (q .i) (q .stripe) true Accepted))
     (readWalk (q .volume) (q .i) 0 false (Refused OutOfLimits))
@@ -199,8 +208,17 @@ readBegunOf q nodes out blocks =
 abbrev pub noSizes : Sizes
 noSizes = record { k = 0; n = 0; b = 0; failures = 0; m = 0 }
 
-abbrev pub readRequestOf : ReadWalk → ReadRequest
-readRequestOf w = cond (w .goes) (record { z = w .volume .z; i = w .i }) (record { z = noSizes; i = 0 })
+abbrev pub readRequestOf : ReadWalk → SizedRead
+readRequestOf w =
+    let each = tableBlocks (w .volume .z) in
+    cond (w .goes) (record { z = w .volume .z; i = w .i; blocks = each; spare = each }) (record { z = noSizes; i = 0; blocks = 0; spare = 0 })
 
 abbrev pub readAfterOf : ReadWalk → Answer → Answer
 readAfterOf w answer = cond (w .goes) answer (w .answer)
+
+-- the block that an answer names, in the stripe's own part of each table
+abbrev pub shownOf : sized.SizedRead → Answer → List ℕ → List ℕ → List ℕ
+shownOf q answer blocks spare =
+    let each = tableBlocks (q .volume .z) in
+    shownPart answer (q .volume .z .b) (q .i) (partIn (partOf (q .stripe) each (length blocks)) blocks)
+    (partIn (partOf (q .stripe) each (length spare)) spare)

@@ -9,6 +9,7 @@ use calls::StepCall;
 use records::Sizes;
 pub use volumes::part_from;
 pub use volumes::part_to;
+pub use volumes::stripe_part;
 pub use volumes::table_blocks;
 pub use volumes::table_differences;
 
@@ -36,6 +37,15 @@ pub struct ReadRequest {
     pub volume: Volume,
     pub stripe: usize,
     pub i: u8,
+}
+
+// The same, with the lengths of the blocks and the spare.
+pub struct SizedRead {
+    pub volume: Volume,
+    pub stripe: usize,
+    pub i: u8,
+    pub blocks: usize,
+    pub spare: usize,
 }
 
 // The lengths of a volume's tables, and of the bytes that are given with a card's failure.

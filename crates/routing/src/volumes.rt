@@ -1,9 +1,11 @@
 // A volume's tables, and the parts of its stripes.
 ghost use mathlib.Core.Path.{_≡_};
+ghost use lib.ListN.{length};
+ghost use Rattle.parts.specs.Inside.{partIn};
 ghost use Rattle.records.specs.Client.{freshClient};
 ghost use Rattle.records.specs.Node.{freshNode};
 ghost use Rattle.records.specs.View.{clientOf, nodeOf};
-ghost use Rattle.routing.specs.Parts.{partFrom, partTo, tableBlocks, tableDifferences, lengthsOf, volumeWithin};
+ghost use Rattle.routing.specs.Parts.{partFrom, partOf, partTo, tableBlocks, tableDifferences, lengthsOf, volumeWithin};
 ghost use Rattle.routing.specs.Renewals.{renewalEnd, renewalOf, Zeroed};
 use crate::Lengths;
 use crate::Renewal;
@@ -47,6 +49,16 @@ pub fn part_to(s: usize, each: usize, len: usize) -> usize
     }
     let first = s * each;
     if first + each <= len { first + each } else { 0 }
+}
+
+// The part of stripe s of a table with so many bytes for each; an empty one if it is not all there.
+pub fn stripe_part(table: &[u8], s: usize, each: usize) -> &[u8]
+    ensures { λ r. ⌜ now r ≡ partIn (partOf s each (length (now (table .entry)))) (now (table .entry)) ⌝ }
+{
+    let len = table.len();
+    let from = part_from(s, each, len);
+    let to = part_to(s, each, len);
+    &table[from..to]
 }
 
 // The bytes of a stripe's blocks, and of its clients' differences; 0 if the sizes are too large for a stripe.

@@ -1,5 +1,5 @@
 -- A list of calls of the code is a list of the machine's calls, if each of them is the machine's step with permitted sizes. A call that is answered 1 for
--- a reason that the machine has not (a read's buffer, a table of another length) is the machine's with sizes outside the limits, which every call is
+-- a reason that the machine has not (a table of another length) is the machine's with sizes outside the limits, which every call is
 -- refused with. Assumes nothing.
 use mathlib.Core.Path.{_≡_, refl, sym, ap, subst, _∙_}
 use mathlib.Core.Logic.{_⊎_, inl, inr}

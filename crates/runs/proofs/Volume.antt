@@ -9,18 +9,18 @@ use lib.ListN.{length, List·getD-map}
 use Rattle.basics.specs.Lists.{elementAt}
 use Rattle.blocks.specs.Blocks.{Bytes}
 use Rattle.machine.specs.Calls.{Call, Read, Pick, Swap, Fail, Due, Tick, At, By, step}
-use Rattle.machine.specs.Guarantee.{EveryList, Holds, KeepsDone, valueOf}
+use Rattle.machine.specs.Guarantee.{EveryList, Holds, KeepsDone, ReadsPart, valueOf}
 use Rattle.machine.specs.Guarantee as Machine
 use Rattle.machine.specs.History.{Event}
 use Rattle.machine.specs.Stripe.{Stripe, Answer, Outcome, answered, refused, guard, number}
 use Rattle.machine.proofs.Tables.{bytes-block}
-use Rattle.machine.proofs.Theorem.{demand3, keeps-done}
+use Rattle.machine.proofs.Theorem.{demand3, keeps-done, reads-part}
 use Rattle.records.specs.declared.Refusal.the-variants.{OutOfLimits}
 use Rattle.records.specs.declared.Sizes.{Sizes}
 use Rattle.runs.specs.Runs.{Run}
 use Rattle.runs.specs.Runs as Runs
 use Rattle.runs.specs.Volume.{VolumeEvent, blocksOf, eventIn, pastOf, VolumeRun, begun, called, MachineMakes, TakenOut, OthersKept, EveryVolumeRun}
-use Rattle.runs.specs.Volume.{VolumeMakes, Demand3Volume, KeepsDoneVolume}
+use Rattle.runs.specs.Volume.{VolumeMakes, Demand3Volume, KeepsDoneVolume, ReadsPartVolume}
 use Rattle.runs.proofs.Runs.{Stepped, refused-one, StepsAll, every-run}
 use Rattle.volume.specs.Volume.{Volume, VolumeCall, callIn, noStripe, reaches, stripeAt, volumeStep}
 use Rattle.volume.proofs.Steps.{others-unchanged, same-count, step-in-each, volume-limits-same}
@@ -151,3 +151,6 @@ demand3-volume = every-volume-run (λ z stripes v. v) VolumeMakes volume-steps H
 
 pub keeps-done-volume : KeepsDoneVolume
 keeps-done-volume = every-volume-run (λ z stripes v. v) VolumeMakes volume-steps KeepsDone keeps-done
+
+pub reads-part-volume : ReadsPartVolume
+reads-part-volume = every-volume-run (λ z stripes v. v) VolumeMakes volume-steps ReadsPart reads-part

@@ -15,9 +15,9 @@ use Rattle.calls.specs.declared.Answer.{Answer}
 use Rattle.calls.proofs.Numbers.{left-one}
 use Rattle.machine.specs.Stripe as Machine
 use Rattle.machine.specs.Stripe.{answered, fresh, guard, number}
-use Rattle.machine.specs.Guarantee.{Holds, KeepsDone}
+use Rattle.machine.specs.Guarantee.{Holds, KeepsDone, ReadsPart}
 use Rattle.machine.proofs.Tables.{bytes-block}
-use Rattle.machine.proofs.Theorem.{demand3, keeps-done}
+use Rattle.machine.proofs.Theorem.{demand3, keeps-done, reads-part}
 use Rattle.records.specs.declared.Refusal.the-variants.{OutOfLimits}
 use Rattle.records.specs.declared.Sizes.{Sizes}
 use Rattle.records.specs.Client.{freshClient}
@@ -32,8 +32,8 @@ use Rattle.routing.specs.declared.Volume as code
 use Rattle.runs.specs.Entered.{Tables}
 use Rattle.runs.specs.Runs.{Begun}
 use Rattle.runs.specs.Volume.{VolumeBegun}
-use Rattle.runs.specs.VolumeEntered.{EntersVolume, entered, shown, EntersVolumeOne, kept, others, volumeOf}
-use Rattle.runs.specs.VolumeEntered.{TakenOutEntered, OthersKeptEntered, Demand3VolumeEntered, KeepsDoneVolumeEntered}
+use Rattle.runs.specs.VolumeEntered.{EntersVolume, entered, shown, told, EntersVolumeOne, kept, others, volumeOf}
+use Rattle.runs.specs.VolumeEntered.{TakenOutEntered, OthersKeptEntered, Demand3VolumeEntered, KeepsDoneVolumeEntered, ReadsPartVolumeEntered}
 use Rattle.runs.proofs.Volume.{VolumeStepped, VolumeStepsAll, every-volume-run, others-kept, taken-out, volume-guarded}
 
 abbrev seen : code.Volume → Tables → Volume
@@ -53,7 +53,7 @@ moved : (q : VolumeCall) (t t′ : Tables) (v w : code.Volume) → v ≡ w → (
 moved q t t′ v w e answer test y said =
     subst (λ x. answered answer (seen x t′) ≡ guard test OutOfLimits (seen x t) (volumeStep y q (seen x t))) e said
 
--- with the list's own sizes and number of stripes it is the machine's, but for the tests of the tables' lengths and of a read's buffer
+-- with the list's own sizes and number of stripes it is the machine's, but for the tests of the tables' lengths
 enters-volume : (z y : Sizes) (stripes count : ℕ) (t : Tables) (q : VolumeCall) (answer : Machine.Answer) (t′ : Tables)
     → ((y ≡ z) × (count ≡ stripes)) ⊎ (number answer ≡ 1) → EntersVolume t y count q answer t′
     → VolumeStepped z q (volumeOf z stripes t) answer (volumeOf z stripes t′)
@@ -69,11 +69,15 @@ enters-volume z y stripes count t q answer t′ (inr one) (entered request value
       spare = same .1 .1 .1 .0 i;
       differences = same .1 .1 .1 .1 i;
     })
-enters-volume z y stripes count t q answer t′ (inl e) (shown request out a out′ m) =
+enters-volume z y stripes count t q answer t′ (inl e) (shown request a part m) =
+    volume-guarded z q (volumeOf z stripes t) _ (inl (e .0))
+    (moved q t t (request .volume) (record { stripes = stripes; z = z }) (λ i. record { stripes = e .1 i; z = e .0 i }) _ _ _ (m .said (t .differences)))
+enters-volume z y stripes count t q answer t′ (inr one) (shown request a part m) = limits z stripes q t t′ answer one refl
+enters-volume z y stripes count t q answer t′ (inl e) (told request a m eb es) =
     volume-guarded z q (volumeOf z stripes t) _ (inl (e .0))
     (moved q t t (request .volume) (record { stripes = stripes; z = z }) (λ i. record { stripes = e .1 i; z = e .0 i }) _ _ _
-    (m (t .clients) (t .spare) (t .differences) .said))
-enters-volume z y stripes count t q answer t′ (inr one) (shown request out a out′ m) = limits z stripes q t t′ answer one refl
+    (m (t .blocks) (t .spare) (t .differences) eb es))
+enters-volume z y stripes count t q answer t′ (inr one) (told request a m eb es) = limits z stripes q t t′ answer one refl
 
 steps-volume : VolumeStepsAll volumeOf EntersVolumeOne
 steps-volume z y stripes count t q answer t′ permitted (kept x k c a after m) = enters-volume z y stripes count t q answer t′ permitted m
@@ -90,6 +94,9 @@ demand3-volume-entered = every-volume-run volumeOf EntersVolumeOne steps-volume 
 
 pub keeps-done-volume-entered : KeepsDoneVolumeEntered
 keeps-done-volume-entered = every-volume-run volumeOf EntersVolumeOne steps-volume KeepsDone keeps-done
+
+pub reads-part-volume-entered : ReadsPartVolumeEntered
+reads-part-volume-entered = every-volume-run volumeOf EntersVolumeOne steps-volume ReadsPart reads-part
 
 -- ---- a fresh volume
 

@@ -145,12 +145,11 @@ step-more t past r x fit said =
           })));
       played =
           called (r .played) permitted
-          (played {call = Call.Step (x .call)} {value = x .value} {shown = []} {answer = x .answer} {shown′ = []}
+          (played {call = Call.Step (x .call)} {value = x .value} {answer = x .answer}
           (record {
             said = ap (answered (answerOf (x .answer) [])) (value-seen (x .after) (rest .1))
                 ∙ said ∙ ap (step z (stepOf (x .call) (x .value))) (sym (value-seen t (r .full)));
             left = left-free (x .answer) _ changes;
-            buffer = refl;
           }));
     }
 
@@ -203,11 +202,10 @@ module _ (t : Tables) (c : ℕ) (nodes : List NodeRecord) (clients : List Client
             })));
         played =
             called (r .played) permitted
-            (played {call = Call.Pick c} {value = []} {shown = []} {answer = Accepted} {shown′ = []}
+            (played {call = Call.Pick c} {value = []} {answer = Accepted}
             (record {
               said = ap (answered Machine.Accepted) (value-seen leaves full) ∙ said ∙ ap (step z (Pick c)) (sym (value-seen t (r .full)));
               left = tt;
-              buffer = refl;
             }));
       }
 

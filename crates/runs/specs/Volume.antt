@@ -11,7 +11,7 @@ use lib.ListN.{length}
 use Rattle.basics.specs.Lists.{elementAt}
 use Rattle.blocks.specs.Blocks.{Bytes}
 use Rattle.machine.specs.Calls.{Call, step}
-use Rattle.machine.specs.Guarantee.{Holds, KeepsDone, valueOf}
+use Rattle.machine.specs.Guarantee.{Holds, KeepsDone, ReadsPart, valueOf}
 use Rattle.machine.specs.Guarantee as Machine
 use Rattle.machine.specs.History.{Event}
 use Rattle.machine.specs.Stripe.{Stripe, Answer, Outcome, answered, guard, number}
@@ -106,3 +106,7 @@ Demand3Volume = EveryVolumeRun (λ z stripes v. v) VolumeMakes Holds
 
 abbrev pub KeepsDoneVolume : Type 0
 KeepsDoneVolume = EveryVolumeRun (λ z stripes v. v) VolumeMakes KeepsDone
+
+-- C-15: what the reads show
+abbrev pub ReadsPartVolume : Type 0
+ReadsPartVolume = EveryVolumeRun (λ z stripes v. v) VolumeMakes ReadsPart

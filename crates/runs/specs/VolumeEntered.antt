@@ -1,10 +1,12 @@
--- Demand 3 of the entry points of volumeshelf: a caller keeps a volume in five tables and makes any list of calls of `call` and `read` on them. A list
+-- Demand 3 of the entry points of volumeshelf: a caller keeps a volume in five tables and makes any list of calls of `call`, `read` and `read_answer` on them. A list
 -- begins with what `fresh` leaves. Assumes nothing.
 use mathlib.Core.List.{List, []}
+use mathlib.Core.Path.{_≡_}
 use Prim.Native.Nat.{ℕ}
+use lib.ListN.{length}
 use Rattle.machine.specs.Stripe as Machine
 use Rattle.machine.specs.Calls as Calls
-use Rattle.machine.specs.Guarantee.{Holds, KeepsDone}
+use Rattle.machine.specs.Guarantee.{Holds, KeepsDone, ReadsPart}
 use Rattle.records.specs.declared.Refusal.the-variants.{OutOfLimits}
 use Rattle.records.specs.declared.Sizes.{Sizes}
 use Rattle.calls.specs.declared.Answer.{Answer}
@@ -12,7 +14,9 @@ use Rattle.calls.specs.Answers.{answerOf}
 use Rattle.volume.specs.Volume.{Volume, VolumeCall, on}
 use Rattle.routing.specs.declared.ReadRequest.{ReadRequest}
 use Rattle.routing.specs.declared.Request.{Request}
-use Rattle.volumeshelf.specs.Volumes.{CallsVolume, ReadsVolume, callOf, volumeIn}
+use Rattle.routing.specs.declared.SizedRead.{SizedRead}
+use Rattle.routing.specs.Walks.{shownOf}
+use Rattle.volumeshelf.specs.Volumes.{AnswersVolume, CallsVolume, ReadsVolume, callOf, volumeIn}
 use Rattle.runs.specs.Entered.{Tables}
 use Rattle.runs.specs.Volume.{EveryVolumeRun, OthersKept, TakenOut}
 
@@ -26,8 +30,11 @@ pub data EntersVolume (t : Tables) : Sizes → ℕ → VolumeCall → Machine.An
       → CallsVolume (t .nodes) (t .clients) (t .blocks) (t .spare) (t .differences) value q answer
       (t′ .nodes) (t′ .clients) (t′ .blocks) (t′ .spare) (t′ .differences)
       → EntersVolume t (q .volume .z) (q .volume .stripes) (on (q .stripe) (callOf (q .call) value)) (answerOf answer []) t′
-  shown : (q : ReadRequest) (out : List ℕ) (answer : Answer) (out′ : List ℕ) → ReadsVolume (t .nodes) out (t .blocks) q answer out′
-      → EntersVolume t (q .volume .z) (q .volume .stripes) (on (q .stripe) (Calls.Read (q .i))) (answerOf answer out′) t
+  shown : (q : ReadRequest) (answer : Answer) (part : List ℕ) → ReadsVolume (t .nodes) (t .clients) (t .blocks) (t .spare) q answer part
+      → EntersVolume t (q .volume .z) (q .volume .stripes) (on (q .stripe) (Calls.Read (q .i))) (answerOf answer part) t
+  -- a read's answer, by the lengths of the tables, and then the part that it names
+  told : (q : SizedRead) (answer : Answer) → AnswersVolume (t .nodes) (t .clients) q answer → q .blocks ≡ length (t .blocks) → q .spare ≡ length (t .spare)
+      → EntersVolume t (q .volume .z) (q .volume .stripes) (on (q .stripe) (Calls.Read (q .i))) (answerOf answer (shownOf q answer (t .blocks) (t .spare))) t
 
 -- a call is lent the tables that are kept; or it is lent others, "length outside the limits", a part of them say, which it leaves as they are
 pub data EntersVolumeOne (t : Tables) : Sizes → ℕ → VolumeCall → Machine.Answer → Tables → Type 0 where
@@ -48,3 +55,7 @@ Demand3VolumeEntered = EveryVolumeRun volumeOf EntersVolumeOne Holds
 
 abbrev pub KeepsDoneVolumeEntered : Type 0
 KeepsDoneVolumeEntered = EveryVolumeRun volumeOf EntersVolumeOne KeepsDone
+
+-- C-15: what the reads show
+abbrev pub ReadsPartVolumeEntered : Type 0
+ReadsPartVolumeEntered = EveryVolumeRun volumeOf EntersVolumeOne ReadsPart

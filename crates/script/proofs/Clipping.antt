@@ -22,6 +22,7 @@ use Rattle.records.specs.declared.NodeCall.{NodeCall}
 use Rattle.records.specs.declared.NodeCall.the-variants.{Add, Check}
 use Rattle.records.specs.declared.ClientCall.{ClientCall}
 use Rattle.records.specs.declared.ClientCall.the-variants.{Drop, Sweep, Stop, Lock, Weaken, Tighten, Write, Settle, Unlock, Quit}
+use Rattle.machine.specs.Reading as Reading
 use Rattle.machine.specs.Writing as Writing
 use Rattle.machine.specs.Failure as Failure
 use Rattle.machine.specs.Aging as Aging
@@ -265,9 +266,29 @@ module _ (z : Sizes) (s : Stripe) where
     abbrev tables : Whole → Bool
     tables w = Rebuild.outOfLimits z w || not (blocksFit z (w .blocks) && blocksFit z (w .spare))
 
+    -- a read of a position that is not there is denied
+    read-out : (i : ℕ) → isPosition z i ≡ false
+        → Reading.read z i s ≡ denied (not (sizesWithin z && (nodeWithin z (nodeAt (s .nodes) i) && blocksFit z (s .blocks)))) s
+    unfolding Reading.read Reading.readOr
+    read-out i e = first-tests _ _ s _ e
+
+    read-clip : (i : ℕ) → Reading.read z (clipNumber i) s ≡ Reading.read z i s
+    read-clip i = by (decLe i 255)
+      where
+        there : nodeAt (s .nodes) (clipNumber i) ≡ nodeAt (s .nodes) i
+        there = element-clip failedNode (s .nodes) i (small .node-records)
+
+        by : Dec (i ≤ 255) → Reading.read z (clipNumber i) s ≡ Reading.read z i s
+        by (yes b) = rw (clip-below i b)
+        by (no b) =
+            let e : 255 < i = omega arith in
+            read-out (clipNumber i) (no-position (clipNumber i) (omega (arith, clip-above i e)))
+            ∙ ap (λ x. denied (not (sizesWithin z && (nodeWithin z x && blocksFit z (s .blocks)))) s) there
+            ∙ sym (read-out i (no-position i (omega arith)))
+
     pub clip-call : (room : ℕ) → z .b ≤ room → (x : Call) → step z (clip room x) s ≡ step z x s
-    unfolding step Writing.read Writing.swap Writing.add Writing.check Writing.drop Writing.sweep Failure.fail Failure.stop Aging.due Rebuild.lock Rebuild.pick Rebuild.weaken Rebuild.tighten Rebuild.write Rebuild.settle Rebuild.unlock Rebuild.quit
-    clip-call room fits (Read i) = at-node (Writing.read z) (λ l. not (sizesWithin z && (nodeWithin z (l .node) && blocksFit z (l .blocks)))) (isPosition z) (λ i l e. first-tests _ _ l _ e) no-position i
+    unfolding step Writing.swap Writing.add Writing.check Writing.drop Writing.sweep Failure.fail Failure.stop Aging.due Rebuild.lock Rebuild.pick Rebuild.weaken Rebuild.tighten Rebuild.write Rebuild.settle Rebuild.unlock Rebuild.quit
+    clip-call room fits (Read i) = read-clip i
     clip-call room fits (Swap c i v) =
         value-clip (λ v. step z (Swap (clipNumber c) (clipNumber i) v) s) room fits
         (λ v e. denied-at (clipNumber i) (clipNumber c) (Writing.swap z (clipNumber c) (clipNumber i) v) true (swap-long (clipNumber c) (clipNumber i) v (atNode (clipNumber i) (clipNumber c) s) e)) v

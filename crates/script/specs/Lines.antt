@@ -145,7 +145,7 @@ shelfCall line = shelfLine (call line)
 -- "Events: swapped, added, locked (each lock), rebuilt (the nth settle)": the answer's event, by its call
 abbrev pub isRebuilt : Answer → Bool
 isRebuilt Accepted = false
-isRebuilt (Stripe.Shown block) = false
+isRebuilt (Stripe.Shown source block) = false
 isRebuilt Added = false
 isRebuilt Done = false
 isRebuilt Rebuilt = true
@@ -200,8 +200,8 @@ hex (x ∷ xs) = hexOf (x / 16) ∷ hexOf (x % 16) ∷ hex xs
 -- "and the byte read or '-'": a block of no byte shows none
 abbrev pub shown : Answer → List ℕ
 shown Accepted = 45 ∷ []
-shown (Stripe.Shown []) = 45 ∷ []
-shown (Stripe.Shown (x ∷ xs)) = hex (x ∷ xs)
+shown (Stripe.Shown source []) = 45 ∷ []
+shown (Stripe.Shown source (x ∷ xs)) = hex (x ∷ xs)
 shown Added = 45 ∷ []
 shown Done = 45 ∷ []
 shown Rebuilt = 45 ∷ []

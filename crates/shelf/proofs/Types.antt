@@ -6,8 +6,7 @@ use denote.Builtin.{u8}
 use denote.Steps.{only}
 use denote.Struct.Laws as struct
 use Rattle.calls.proofs.Answer as answer
-use Rattle.calls.proofs.Answer.Laws as answer-laws
-use Rattle.lent.proofs.Elem.{Rec, rec-struct, rec-enum, rec-uint}
+use Rattle.lent.proofs.Elem.{Rec, rec-struct, rec-uint}
 use Rattle.lent.proofs.Side.{Side, Back, Parts}
 use Rattle.records.proofs.ClientRecord as client
 use Rattle.records.proofs.ClientRecord.Laws as client-laws
@@ -15,6 +14,7 @@ use Rattle.records.proofs.NodeRecord as node
 use Rattle.records.proofs.NodeRecord.Laws as node-laws
 use Rattle.records.proofs.Sizes as sizes
 use Rattle.records.proofs.Sizes.Laws as sizes-laws
+pub use Rattle.step.proofs.Types.{answer-rec}
 use Rattle.taking.specs.Images.{ClientsTook}
 use Rattle.taking.specs.Picks.{AllTook}
 use Rattle.taking.specs.Table.{ClientTaken, NodeFound, NodesSeen}
@@ -36,6 +36,8 @@ use Rattle.taking.proofs.ReadRequest as read-request
 use Rattle.taking.proofs.ReadRequest.Laws as read-request-laws
 use Rattle.taking.proofs.Request as request
 use Rattle.taking.proofs.Request.Laws as request-laws
+use Rattle.taking.proofs.SizedRead as sized-read
+use Rattle.taking.proofs.SizedRead.Laws as sized-read-laws
 use Rattle.taking.proofs.Sought as sought
 use Rattle.taking.proofs.Sought.Laws as sought-laws
 use Rattle.taking.proofs.Returned as returned
@@ -55,6 +57,9 @@ request-rec = rec-struct request.the-type request-laws.the-laws request-laws.the
 
 abbrev pub read-request-rec : Rec read-request.the-row
 read-request-rec = rec-struct read-request.the-type read-request-laws.the-laws read-request-laws.the-copy read-request-laws.the-plain (λ _. tt) (λ _ _. refl)
+
+abbrev pub sized-read-rec : Rec sized-read.the-row
+sized-read-rec = rec-struct sized-read.the-type sized-read-laws.the-laws sized-read-laws.the-copy sized-read-laws.the-plain (λ _. tt) (λ _ _. refl)
 
 abbrev pub pick-request-rec : Rec pick-request.the-row
 pick-request-rec = rec-struct pick-request.the-type pick-request-laws.the-laws pick-request-laws.the-copy pick-request-laws.the-plain (λ _. tt) (λ _ _. refl)
@@ -88,9 +93,6 @@ others-rec = rec-struct others.the-type others-laws.the-laws others-laws.the-cop
 
 abbrev returned-rec : Rec returned.the-row
 returned-rec = rec-struct returned.the-type returned-laws.the-laws returned-laws.the-copy returned-laws.the-plain (λ _. tt) (λ _ _. refl)
-
-abbrev pub answer-rec : Rec answer.the-row
-answer-rec = rec-enum answer.the-type answer-laws.the-laws answer-laws.the-copy answer-laws.the-plain tt (λ _. tt) (λ _ _. refl)
 
 abbrev pub returned-parts : Parts back.the-row others.the-row taken.the-row answer.the-row returned.the-row back-rec others-rec taken-rec answer-rec
 returned-parts = record {

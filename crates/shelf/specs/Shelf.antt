@@ -4,20 +4,18 @@ use mathlib.Core.List.{List, []}
 use mathlib.Core.Path.{_≡_}
 use Prim.Native.Nat.{ℕ}
 use Rattle.calls.specs.declared.Answer.{Answer}
-use Rattle.calls.specs.Answers.{Meets}
+use Rattle.calls.specs.Answers.{Meets, answerOf, shownPart}
 use Rattle.calls.specs.Calls.{stepOf}
 use Rattle.imaging.specs.Imaging.{written}
-use Rattle.machine.specs.Calls.{Pick}
+use Rattle.machine.specs.Calls.{Pick, Read}
+use Rattle.machine.specs.Stripe.{answered}
 use Rattle.records.specs.declared.ClientRecord.{ClientRecord}
 use Rattle.records.specs.declared.NodeRecord.{NodeRecord}
 use Rattle.records.specs.declared.Sizes.{Sizes}
-use Rattle.records.specs.Client.{Client}
-use Rattle.step.specs.Steps.{stripeWith}
 use Rattle.taking.specs.declared.PickRequest.{PickRequest}
 use Rattle.taking.specs.declared.ReadRequest.{ReadRequest}
 use Rattle.taking.specs.declared.Request.{Request}
-use Rattle.taking.specs.Lent.{onTables, reading, stripeIn}
-use Rattle.taking.specs.Table.{nodesIn}
+use Rattle.taking.specs.Lent.{onTables, stripeIn}
 
 -- where a refusal leaves all unchanged, it hands back the very tables
 abbrev pub StepsLent : List NodeRecord → List ClientRecord → List ℕ → List ℕ → List ℕ → List ℕ → Request → Answer
@@ -27,12 +25,14 @@ StepsLent nodes clients blocks spare differences value q answer nodes′ clients
     answer [] (stripeIn nodes′ clients′ blocks′ spare′ differences′)
     ((nodes′ ≡ nodes) × ((clients′ ≡ clients) × ((blocks′ ≡ blocks) × ((spare′ ≡ spare) × (differences′ ≡ differences)))))
 
--- a read is lent neither the clients nor the other tables
-abbrev pub ReadsLent : List NodeRecord → List ℕ → List ℕ → ReadRequest → Answer → List ℕ → Type 0
-ReadsLent nodes out blocks q answer out′ =
-    (clients : List Client) (spare differences : List ℕ)
-    → Meets (reading (q .z) (q .i) out (stripeWith (nodesIn nodes) clients blocks spare differences))
-    answer out′ (stripeWith (nodesIn nodes) clients blocks spare differences) (out′ ≡ out)
+-- a read, whatever the differences are: the answer, with the part that is handed back, is the machine's; the part is what the answer names, and nothing
+-- where it names nothing
+pub record ReadsLent (nodes : List NodeRecord) (clients : List ClientRecord) (blocks spare : List ℕ) (q : ReadRequest) (answer : Answer) (part : List ℕ)
+    : Type 0 where
+  pub said : (differences : List ℕ) →
+      let s = stripeIn nodes clients blocks spare differences in
+      answered (answerOf answer part) s ≡ onTables (q .z) (Read (q .i)) s
+  pub shows : part ≡ shownPart answer (q .z .b) (q .i) blocks spare
 
 -- whatever the differences are
 abbrev pub PicksLent : List NodeRecord → List ClientRecord → List ℕ → List ℕ → PickRequest → Answer

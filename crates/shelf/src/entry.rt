@@ -1,5 +1,6 @@
 // The entry points. Each is walked by a law.
 ghost use Rattle.shelf.specs.Shelf.{ImagesLent, PicksOnly, StepsLent, ReadsLent};
+ghost use Rattle.taking.specs.Reads.{AnswersLent};
 use crate::table::look;
 use crate::table::put_back;
 use crate::table::put_client;
@@ -9,6 +10,7 @@ use crate::table::take_client;
 use crate::table::take_clients;
 use crate::table::take_node;
 use calls::Answer;
+use calls::Reading;
 use records::ClientRecord;
 use records::NodeRecord;
 use records::Sizes;
@@ -16,6 +18,7 @@ use taking::Found;
 use taking::PickRequest;
 use taking::ReadRequest;
 use taking::Request;
+use taking::SizedRead;
 
 // Every call but read and pick.
 pub fn step(
@@ -42,13 +45,35 @@ pub fn step(
     r.answer
 }
 
-// The block of data node i, into out.
-pub fn read(nodes: &[NodeRecord], out: &mut [u8], blocks: &[u8], request: ReadRequest) -> Answer
-    ensures { λ r. ⌜ ReadsLent (now (nodes .entry)) (now (out .entry)) (now (blocks .entry)) request r (now (out .exit)) ⌝ }
+// What a read is answered. Of the blocks and the spare it is told the lengths; the part of them that the answer names is calls::shown_part.
+pub fn read_answer(nodes: &[NodeRecord], clients: &[ClientRecord], request: SizedRead) -> Answer
+    ensures { λ r. ⌜ AnswersLent (now (nodes .entry)) (now (clients .entry)) request r ⌝ }
 {
-    let looked = request.sought();
-    let found = take_node(nodes, looked);
-    found.read(out, blocks, request)
+    let own = request.sought();
+    let found = take_node(nodes, own);
+    let c = found.holder();
+    let client = take_client(clients, c);
+    let sought = client.sought_to_read(request);
+    let looked = look(nodes, sought);
+    looked.read(found, client, request)
+}
+
+// The block of data node i, a part of the blocks or of the spare, and the answer, which tells of which.
+pub fn read<'a>(
+    nodes: &[NodeRecord],
+    clients: &[ClientRecord],
+    blocks: &'a [u8],
+    spare: &'a [u8],
+    request: ReadRequest,
+) -> Reading<'a>
+    ensures { λ r. ⌜ ReadsLent (now (nodes .entry)) (now (clients .entry)) (now (blocks .entry)) (now (spare .entry)) request (r .answer) (now (r .part)) ⌝ }
+{
+    let live = blocks.len();
+    let kept = spare.len();
+    let sized = request.sized(live, kept);
+    let answer = read_answer(nodes, clients, sized);
+    let part = sized.part(answer, blocks, spare);
+    Reading { part, answer }
 }
 
 // The codeword decoded from the largest set that fits, into the spare.

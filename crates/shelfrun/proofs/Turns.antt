@@ -1,35 +1,36 @@
 -- A call played, and what is printed of its answer. Assumes nothing.
-use mathlib.Core.Path.{_≡_, refl, sym, ap, subst, _∙_}
-use mathlib.Core.Bool.{cond, true, false}
+use mathlib.Core.Path.{_≡_, refl, sym, ap, subst}
+use mathlib.Core.Bool.{Bool, cond, true, false}
 use mathlib.Core.List.{List, [], _∷_}
 use mathlib.Core.Option.{some}
-use Prim.Native.Nat.{ℕ}
+use Prim.Native.Nat.{ℕ, _-_, _*_, _≤_}
 use native.Mathlib.Omega.{arith}
 use lib.Dec.{eqb}
-use lib.ListN.{length, getD}
+use lib.ListN.{drop, getD, length, length-take}
 use borrow.Author.Tests.{ne-eqb}
-use Rattle.machine.specs.Stripe.{Stripe, Outcome, answered, guard, number}
+use Rattle.blocks.specs.Blocks.{part, block, hasBlock, blockIn}
+use Rattle.records.specs.declared.Source.{Source}
+use Rattle.machine.specs.Stripe.{Stripe, Outcome, answered, number}
 use Rattle.machine.specs.Stripe as Machines
 use Rattle.machine.specs.Calls.{step}
 use Rattle.machine.specs.Calls as Machine
 use Rattle.calls.specs.declared.Answer.{Answer}
 use Rattle.calls.specs.declared.Answer.the-variants.{Accepted, Shown, Added, Done, Rebuilt, Told, Refused}
-use Rattle.calls.specs.Answers.{answerOf}
+use Rattle.calls.specs.Answers.{answerOf, shownPart, tableOf}
 use Rattle.calls.specs.declared.Call.{Call}
-use Rattle.calls.specs.declared.Call.the-variants as Calls
 use Rattle.calls.specs.Calls.{callOf}
 use Rattle.script.specs.Lines.{printed, shown, shownText}
 use Rattle.script.specs.Writing.{Put}
 use Rattle.script.specs.declared.writer.Event.{Event}
 use Rattle.script.specs.declared.writer.Shown as Writer
-use Rattle.step.specs.Plays.{playing, shownBy}
+use Rattle.script.specs.declared.writer.Shown.the-variants as Showns
 use Rattle.shelfrun.specs.Shelfrun.{sizes, output}
-use Rattle.shelfrun.specs.Feeding.{Says, Answers}
+use Rattle.shelfrun.specs.Feeding.{Says, Answers, byteIn}
 
 -- the number says nothing of the block shown
 pub number-alone : (a : Answer) (block : List ℕ) → number (answerOf a block) ≡ number (answerOf a [])
 number-alone Accepted block = refl
-number-alone Shown block = refl
+number-alone (Shown source) block = refl
 number-alone Added block = refl
 number-alone Done block = refl
 number-alone Rebuilt block = refl
@@ -39,7 +40,7 @@ number-alone (Refused why) block = refl
 -- only a read shows a byte
 pub none-shown : (a : Answer) → 45 ∷ [] ≡ shown (answerOf a [])
 none-shown Accepted = refl
-none-shown Shown = refl
+none-shown (Shown source) = refl
 none-shown Added = refl
 none-shown Done = refl
 none-shown Rebuilt = refl
@@ -53,25 +54,43 @@ module _ {A : Type 0} (x y : A) (a : Answer) (n : ℕ) (e : n ≡ number (answer
   pub when-refused : (n ≡ 0 → ⊥) → (block : List ℕ) → y ≡ cond (eqb (number (answerOf a block)) 0) x y
   when-refused z block = rw (number-alone a block, sym e, ne-eqb n 0 z)
 
--- a call on a stripe of shelfrun's sizes, with a buffer of one byte to show a block in
-pub playing-step : (call : Call) (value shown : List ℕ) (s : Stripe) → length shown ≡ 1 → playing sizes call value shown s ≡ step sizes (callOf call value) s
-unfolding guard
-playing-step (Calls.Read i) value shown s h = rw h
-playing-step (Calls.Pick c) value shown s h = refl
-playing-step (Calls.Step call) value shown s h = refl
-
 -- a list of one byte
 pub one-byte : (l : List ℕ) → length l ≡ 1 → l ≡ getD l 0 0 ∷ []
 one-byte [] h = absurd (omega arith)
 one-byte (x ∷ []) h = refl
 one-byte (x ∷ y ∷ l) h = absurd (omega arith)
 
--- the call on shelfrun's stripe, with the byte that the buffer then has
-pub played : (call : Call) (value shown shown′ : List ℕ) (answer : Answer) (s s′ : Stripe) → length shown ≡ 1 → length shown′ ≡ 1
-    → answered (answerOf answer (shownBy call shown′)) s′ ≡ playing sizes call value shown s
-    → answered (answerOf answer (shownBy call (getD shown′ 0 0 ∷ []))) s′ ≡ step sizes (callOf call value) s
-played call value shown shown′ answer s s′ h h′ e =
-    ap (λ (l : List ℕ). answered (answerOf answer (shownBy call l)) s′) (sym (one-byte shown′ h′)) ∙ e ∙ playing-step call value shown s h
+-- the byte of a block, or nothing
+pub byte-none : (l : List ℕ) → length l ≡ 0 → Showns.Nothing ≡ byteIn l
+byte-none [] h = refl
+byte-none (x ∷ l) h = absurd (omega arith)
+
+pub byte-first : (l : List ℕ) → (length l ≡ 0 → ⊥) → Showns.Byte (getD l 0 0) ≡ byteIn l
+byte-first [] h = absurd (h refl)
+byte-first (x ∷ l) h = refl
+
+-- a block of one byte has at most one
+short : (source : Source) (l : List ℕ) → length l ≤ 1 → shownText (byteIn l) ≡ shown (Machines.Shown source l)
+short source [] h = refl
+short source (x ∷ []) h = refl
+short source (x ∷ y ∷ l) h = absurd (omega arith)
+
+at-most-one : (i : ℕ) (t : List ℕ) (there : Bool) → length (cond there (block 1 i t) []) ≤ 1
+unfolding part
+at-most-one i t true = omega (arith, length-take 1 (drop ((i - 1) * 1) t))
+at-most-one i t false = omega arith
+
+-- the byte that an answer names is the one that is printed
+pub one-shown : (a : Answer) (i : ℕ) (blocks spare : List ℕ) → shownText (byteIn (shownPart a 1 i blocks spare)) ≡ shown (answerOf a (shownPart a 1 i blocks spare))
+one-shown Accepted i blocks spare = refl
+one-shown (Shown source) i blocks spare =
+    let t = tableOf source blocks spare in
+    short source (blockIn 1 i t) (at-most-one i t (hasBlock 1 i (length t)))
+one-shown Added i blocks spare = refl
+one-shown Done i blocks spare = refl
+one-shown Rebuilt i blocks spare = refl
+one-shown (Told finding) i blocks spare = refl
+one-shown (Refused why) i blocks spare = refl
 
 -- the words of an answer, printed
 pub prints : {before after : List ℕ} {end : ℕ} (n : ℕ) (x : Machine.Call) (a : Machines.Answer) (m : ℕ) {event : Event} {byte : Writer.Shown}

@@ -12,9 +12,15 @@ use Rattle.script.specs.Writing.{Put}
 use Rattle.script.specs.declared.reader.LineReader.{LineReader}
 use Rattle.script.specs.declared.writer.Event.{Event}
 use Rattle.script.specs.declared.writer.Shown.{Shown}
+use Rattle.script.specs.declared.writer.Shown.the-variants as Showns
 use Rattle.step.specs.View.{stripeOf}
 use Rattle.shelfrun.specs.declared.feeding.Shelf.{Shelf}
 use Rattle.shelfrun.specs.Shelfrun.{State, start, sizes, outcome, output, outputOf, left, eventIn, readIn, isBegun}
+
+-- what is shown of a block of one byte, or of none
+abbrev pub byteIn : List ℕ → Shown
+byteIn [] = Showns.Nothing
+byteIn (byte ∷ bytes) = Showns.Byte byte
 
 -- the event of a call and its answer, and the byte shown
 pub record Says (x : Call) (a : Machine.Answer) (event : Event) (byte : Shown) : Type 0 where

@@ -9,8 +9,6 @@ ghost use Rattle.calls.specs.Answers.{answerOf};
 ghost use Rattle.calls.specs.Calls.{callOf};
 ghost use Rattle.script.specs.Reading.{callIn};
 ghost use Rattle.script.specs.Writing.{Put};
-ghost use Rattle.machine.specs.Calls.{step};
-ghost use Rattle.machine.specs.Stripe.{answered};
 ghost use Rattle.step.specs.View.{stripeOf};
 ghost use Rattle.step.specs.Plays.{shownBy};
 ghost use Rattle.shelfrun.specs.Shelfrun.{output, sizes};
@@ -25,73 +23,33 @@ use script::writer::Event;
 use script::writer::Shown;
 use step::Stripe;
 
-// What a call is answered, the byte in the buffer that a read fills, and the records after it.
-pub struct Turn {
-    pub answer: Answer,
-    pub byte: u8,
-    pub stripe: Stripe,
-}
-
 // The records after a line, and how long its output is.
 pub struct Answered {
     pub stripe: Stripe,
     pub end: usize,
 }
 
-// The call on the stripe of shelfrun's sizes.
-fn play(
-    call: Call,
-    value: &[u8],
-    stripe: Stripe,
-    blocks: &mut [u8],
-    spare: &mut [u8],
-    differences: &mut [u8],
-) -> Turn
-    ensures { λ r. ⌜ answered (answerOf (r .answer) (shownBy call (r .byte ∷ [])))
-        (stripeOf sizes (r .stripe) (now (blocks .exit)) (now (spare .exit)) (now (differences .exit)))
-        ≡ step sizes (callOf call (now (value .entry)))
-        (stripeOf sizes stripe (now (blocks .entry)) (now (spare .entry)) (now (differences .entry))) ⌝ }
-{
-    let z = Sizes {
-        k: 2,
-        n: 4,
-        b: 1,
-        failures: 1,
-        m: 2,
-    };
-    let mut shown = [0u8; 1];
-    let played = step::play(
-        z,
-        call,
-        value,
-        stripe,
-        blocks,
-        spare,
-        differences,
-        &mut shown,
-    );
-    let answer = played.answer;
-    let after = played.stripe;
-    let byte = shown[0];
-    Turn {
-        answer: answer,
-        byte: byte,
-        stripe: after,
-    }
-}
-
 // The line of output of a call.
-fn print(number: u64, call: Call, answer: Answer, byte: u8, out: &mut [u8]) -> usize
+fn print<'a>(
+    number: u64,
+    call: Call,
+    answer: Answer,
+    blocks: &'a [u8],
+    spare: &'a [u8],
+    out: &mut [u8],
+) -> usize
     requires { ⌜ 64 ≤ length (now out) ⌝ }
-    ensures { λ r. ⌜ ((value : List ℕ) →
-        Put (now (out .entry)) 0 (output number (some (callOf call value)) (answerOf answer (shownBy call (byte ∷ [])))) (now (out .exit)) r) ⌝ }
+    ensures { λ r. ⌜ ((value : List ℕ) → Put (now (out .entry)) 0
+        (output number (some (callOf call value)) (answerOf answer (shownBy sizes call answer (now (blocks .entry)) (now (spare .entry)))))
+        (now (out .exit)) r) ⌝ }
 {
-    let w = words::words_of(call, answer, byte);
+    let w = words::words_of(call, answer, blocks, spare);
     let event = w.event;
     let shown = w.shown;
     writer::put_answer(out, number, event, answer.number(), shown)
 }
 
+// The call on the stripe of shelfrun's sizes, and what is printed of it.
 fn answer_call(
     number: u64,
     call: Call,
@@ -108,10 +66,17 @@ fn answer_call(
         (now (out .entry)) (now (out .exit)) (r .end)
         (stripeOf sizes (r .stripe) (now (blocks .exit)) (now (spare .exit)) (now (differences .exit))) ⌝ }
 {
-    let turn = play(call, value, stripe, blocks, spare, differences);
-    let answer = turn.answer;
-    let after = turn.stripe;
-    let end = print(number, call, answer, turn.byte, out);
+    let z = Sizes {
+        k: 2,
+        n: 4,
+        b: 1,
+        failures: 1,
+        m: 2,
+    };
+    let played = step::play(z, call, value, stripe, blocks, spare, differences);
+    let answer = played.answer;
+    let after = played.stripe;
+    let end = print(number, call, answer, blocks, spare, out);
     Answered {
         stripe: after,
         end: end,

@@ -1,6 +1,6 @@
-// The words of an answer: its event, and the byte that a read showed.
+// The words of an answer: its event, and the byte that a read shows.
 ghost use mathlib.Core.Bool.{cond};
-ghost use mathlib.Core.List.{List, [], _∷_};
+ghost use mathlib.Core.List.{List, []};
 ghost use mathlib.Core.Path.{_≡_};
 ghost use Prim.Native.Nat.{ℕ};
 ghost use lib.Dec.{eqb};
@@ -9,10 +9,12 @@ ghost use Rattle.calls.specs.Calls.{callOf, stepOf};
 ghost use Rattle.script.specs.Lines.{isRebuilt, eventAt, eventBy, eventOf, shown, shownText};
 ghost use Rattle.machine.specs.Stripe.{number};
 ghost use Rattle.step.specs.Plays.{shownBy};
-ghost use Rattle.shelfrun.specs.Feeding.{Says};
+ghost use Rattle.shelfrun.specs.Feeding.{Says, byteIn};
+ghost use Rattle.shelfrun.specs.Shelfrun.{sizes};
 use calls::Answer;
 use calls::Call;
 use calls::StepCall;
+use calls::shown_part;
 use records::ClientCall;
 use records::NodeCall;
 use script::writer::Event;
@@ -38,7 +40,7 @@ fn if_rebuilt(answer: Answer) -> Event
 {
     match answer {
         Answer::Accepted => Event::None,
-        Answer::Shown => Event::None,
+        Answer::Shown(_) => Event::None,
         Answer::Added => Event::None,
         Answer::Done => Event::None,
         Answer::Rebuilt => Event::Rebuilt,
@@ -47,17 +49,24 @@ fn if_rebuilt(answer: Answer) -> Event
     }
 }
 
-fn if_shown(answer: Answer, byte: u8) -> Shown
-    ensures { λ r. ⌜ shownText r ≡ shown (answerOf answer (byte ∷ [])) ⌝ }
+// The byte of a block of one byte.
+fn byte_of(block: &[u8]) -> Shown
+    ensures { λ r. ⌜ r ≡ byteIn (now (block .entry)) ⌝ }
 {
-    match answer {
-        Answer::Accepted => Shown::Nothing,
-        Answer::Shown => Shown::Byte(byte),
-        Answer::Added => Shown::Nothing,
-        Answer::Done => Shown::Nothing,
-        Answer::Rebuilt => Shown::Nothing,
-        Answer::Told(_) => Shown::Nothing,
-        Answer::Refused(_) => Shown::Nothing,
+    if block.len() == 0 {
+        return Shown::Nothing;
+    }
+    Shown::Byte(block[0])
+}
+
+// What a read shows of the tables.
+fn shown_of<'a>(call: Call, answer: Answer, blocks: &'a [u8], spare: &'a [u8]) -> Shown
+    ensures { λ r. ⌜ shownText r ≡ shown (answerOf answer (shownBy sizes call answer (now (blocks .entry)) (now (spare .entry)))) ⌝ }
+{
+    match call {
+        Call::Read(i) => byte_of(shown_part(answer, 1, i as usize, blocks, spare)),
+        Call::Pick(_) => Shown::Nothing,
+        Call::Step(_) => Shown::Nothing,
     }
 }
 
@@ -101,28 +110,26 @@ fn event_of(call: StepCall, answer: Answer) -> Event
     }
 }
 
-// The event of a call and its answer, and the byte in the buffer, if a read showed it.
-pub fn words_of(call: Call, answer: Answer, byte: u8) -> Words
-    ensures { λ r. ⌜ ((value : List ℕ) → Says (callOf call value) (answerOf answer (shownBy call (byte ∷ []))) (r .event) (r .shown)) ⌝ }
+// The event of any call.
+fn event_in(call: Call, answer: Answer) -> Event
+    ensures { λ r. ⌜ ((value blocks spare : List ℕ) → r ≡ eventOf (callOf call value) (answerOf answer (shownBy sizes call answer blocks spare))) ⌝ }
 {
     match call {
-        Call::Read(_) => {
-            let shown = if_shown(answer, byte);
-            Words {
-                event: Event::None,
-                shown: shown,
-            }
-        }
-        Call::Pick(_) => Words {
-            event: Event::None,
-            shown: Shown::Nothing,
-        },
-        Call::Step(step) => {
-            let event = event_of(step, answer);
-            Words {
-                event: event,
-                shown: Shown::Nothing,
-            }
-        }
+        Call::Read(_) => Event::None,
+        Call::Pick(_) => Event::None,
+        Call::Step(step) => event_of(step, answer),
+    }
+}
+
+// The event of a call and its answer, and the byte that it shows of the tables.
+pub fn words_of<'a>(call: Call, answer: Answer, blocks: &'a [u8], spare: &'a [u8]) -> Words
+    ensures { λ r. ⌜ ((value : List ℕ) →
+        Says (callOf call value) (answerOf answer (shownBy sizes call answer (now (blocks .entry)) (now (spare .entry)))) (r .event) (r .shown)) ⌝ }
+{
+    let event = event_in(call, answer);
+    let shown = shown_of(call, answer, blocks, spare);
+    Words {
+        event: event,
+        shown: shown,
     }
 }

@@ -1,8 +1,9 @@
 // A stripe's calls as one: every call but read and pick as a step of one node's record and of its client's, and any call on a stripe by value, whose
-// contract is the machine's step.
+// contract is the machine's step; a read also with the part that it shows.
 mod clients; // clients.rt: the records of all clients
 mod nodes; // nodes.rt: one node of a stripe, or the failed one where there is none
 mod plays; // plays.rt: any call on a stripe by value
+mod reads; // reads.rt: a read on a stripe by value
 mod steps; // steps.rt: every call but read and pick, on the records that it is handed
 
 ghost use mathlib.Core.Path.{_≡_};
@@ -10,6 +11,8 @@ ghost use Rattle.step.specs.View.{Fresh};
 use calls::Answer;
 pub use clients::Clients;
 pub use plays::play;
+pub use reads::read;
+pub use reads::read_answer;
 pub use steps::step;
 use stripe::Nodes;
 

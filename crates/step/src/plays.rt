@@ -1,6 +1,6 @@
 // Any call on a stripe by value: the records taken out, the call made, the records put back.
 ghost use mathlib.Core.Bool.{true};
-ghost use mathlib.Core.List.{List, []};
+ghost use mathlib.Core.List.{List};
 ghost use mathlib.Core.Path.{_≡_};
 ghost use Prim.Native.Nat.{ℕ, _≤_};
 ghost use Rattle.calls.specs.Calls.{caller, looksAtAll};
@@ -14,6 +14,7 @@ ghost use Rattle.step.specs.Plays.{Plays};
 use crate::Played;
 use crate::Stripe;
 use crate::nodes;
+use crate::read_answer;
 use crate::step;
 use calls::Answer;
 use calls::Call;
@@ -64,9 +65,8 @@ fn play_step(
     differences: &mut [u8],
 ) -> Played
     requires { ⌜ sizesWithin z ≡ true ⌝ }
-    ensures { λ r. ⌜ ((shown : List ℕ) →
-        Plays z (Call.Step call) (now (value .entry)) shown (stored stripe (now (blocks .entry)) (now (spare .entry)) (now (differences .entry)))
-        (r .answer) shown (stored (r .stripe) (now (blocks .exit)) (now (spare .entry)) (now (differences .exit)))) ⌝ }
+    ensures { λ r. ⌜ Plays z (Call.Step call) (now (value .entry)) (stored stripe (now (blocks .entry)) (now (spare .entry)) (now (differences .entry)))
+        (r .answer) (stored (r .stripe) (now (blocks .exit)) (now (spare .entry)) (now (differences .exit))) ⌝ }
 {
     let nodes = stripe.nodes;
     let clients = stripe.clients;
@@ -96,17 +96,6 @@ fn play_step(
     }
 }
 
-fn read(z: Sizes, i: u8, stripe: Stripe, blocks: &[u8], shown: &mut [u8]) -> Answer
-    requires { ⌜ sizesWithin z ≡ true ⌝ }
-    ensures { λ r. ⌜ ((value spare differences : List ℕ) →
-        Plays z (Call.Read i) value (now (shown .entry)) (stored stripe (now (blocks .entry)) spare differences)
-        r (now (shown .exit)) (stored stripe (now (blocks .entry)) spare differences)) ⌝ }
-{
-    let nodes = stripe.nodes;
-    let node = nodes::get(nodes, z.n, i as usize);
-    swapping::read(z, i, node, blocks, shown)
-}
-
 // The stripe with what a pick of client c handed back.
 fn put_picked(z: Sizes, c: u8, stripe: Stripe, r: Picked) -> Stripe
     requires { ⌜ (z .n ≤ nodeLimit) × (z .m ≤ clientLimit) ⌝ }
@@ -124,9 +113,9 @@ fn put_picked(z: Sizes, c: u8, stripe: Stripe, r: Picked) -> Stripe
 
 fn pick(z: Sizes, c: u8, stripe: Stripe, blocks: &[u8], spare: &mut [u8]) -> Played
     requires { ⌜ sizesWithin z ≡ true ⌝ }
-    ensures { λ r. ⌜ ((value shown differences : List ℕ) →
-        Plays z (Call.Pick c) value shown (stored stripe (now (blocks .entry)) (now (spare .entry)) differences)
-        (r .answer) shown (stored (r .stripe) (now (blocks .entry)) (now (spare .exit)) differences)) ⌝ }
+    ensures { λ r. ⌜ ((value differences : List ℕ) →
+        Plays z (Call.Pick c) value (stored stripe (now (blocks .entry)) (now (spare .entry)) differences)
+        (r .answer) (stored (r .stripe) (now (blocks .entry)) (now (spare .exit)) differences)) ⌝ }
 {
     let nodes = stripe.nodes;
     let clients = stripe.clients;
@@ -146,7 +135,7 @@ fn pick(z: Sizes, c: u8, stripe: Stripe, blocks: &[u8], spare: &mut [u8]) -> Pla
     }
 }
 
-// Plays one call on the stripe and its tables; a read's block goes to shown.
+// Plays one call on the stripe and its tables. The block that a read shows is the part that its answer names.
 pub fn play(
     z: Sizes,
     call: Call,
@@ -155,11 +144,9 @@ pub fn play(
     blocks: &mut [u8],
     spare: &mut [u8],
     differences: &mut [u8],
-    shown: &mut [u8],
 ) -> Played
-    ensures { λ r. ⌜ Plays z call (now (value .entry)) (now (shown .entry))
-        (stored stripe (now (blocks .entry)) (now (spare .entry)) (now (differences .entry)))
-        (r .answer) (now (shown .exit)) (stored (r .stripe) (now (blocks .exit)) (now (spare .exit)) (now (differences .exit))) ⌝ }
+    ensures { λ r. ⌜ Plays z call (now (value .entry)) (stored stripe (now (blocks .entry)) (now (spare .entry)) (now (differences .entry)))
+        (r .answer) (stored (r .stripe) (now (blocks .exit)) (now (spare .exit)) (now (differences .exit))) ⌝ }
 {
     if !z.within() {
         return Played {
@@ -169,7 +156,7 @@ pub fn play(
     }
     match call {
         Call::Read(i) => Played {
-            answer: read(z, i, stripe, blocks, shown),
+            answer: read_answer(z, i, stripe, blocks.len(), spare.len()),
             stripe: stripe,
         },
         Call::Pick(c) => pick(z, c, stripe, blocks, spare),

@@ -8,7 +8,7 @@ use borrow.Author.Tests.{eq-eqb}
 use Rattle.basics.specs.Lists.{everyOf, someOf}
 use Rattle.machine.specs.Rebuild.{someRecons}
 use Rattle.records.specs.declared.Sizes.{Sizes}
-use Rattle.records.specs.Node.{Node, isRecons, heldBy, nodeWithin}
+use Rattle.records.specs.Node.{Node, isRecons, heldBy, heldAtL1, nodeWithin}
 use Rattle.stripe.specs.declared.seen.Seen.{Seen}
 use Rattle.stripe.specs.Seen.{Sees, seenNone, seenWith}
 
@@ -25,15 +25,15 @@ module _ {A : Type 0} (p : A → Bool) where
 
 module _ (z : Sizes) (c : ℕ) where
   abbrev pub seenOf : List Node → Seen
-  seenOf l = record { within = everyOf (nodeWithin z) l; held = everyOf (heldBy c) l; recons = someRecons l }
+  seenOf l = record { within = everyOf (nodeWithin z) l; held = everyOf (heldBy c) l; tight = everyOf (heldAtL1 c) l; recons = someRecons l }
 
   pub seen-none : seenNone ≡ seenOf []
   unfolding everyOf someOf
   seen-none = refl
 
   pub seen-last : (l : List Node) (x : Node) → seenWith z c x (seenOf l) ≡ seenOf (l ++ (x ∷ []))
-  seen-last l x = rw (every-last (nodeWithin z) l x, every-last (heldBy c) l x, some-last (λ y. isRecons (y .opmode)) l x)
+  seen-last l x = rw (every-last (nodeWithin z) l x, every-last (heldBy c) l x, every-last (heldAtL1 c) l x, some-last (λ y. isRecons (y .opmode)) l x)
 
   -- all nodes, where there are as many as the sizes say
   pub sees-all : (nodes : List Node) {s : Seen} → length nodes ≡ z .n → s ≡ seenOf nodes → Sees z c nodes s
-  sees-all nodes e q = rw q (record { within = rw (eq-eqb (length nodes) (z .n) e); held = refl; recons = refl })
+  sees-all nodes e q = rw q (record { within = rw (eq-eqb (length nodes) (z .n) e); held = refl; tight = refl; recons = refl })

@@ -13,7 +13,7 @@ use Rattle.entries.specs.Entries.{entryLimit}
 use Rattle.machine.specs.Stripe.{nodesFit}
 use Rattle.machine.specs.Rebuild.{someRecons, restored}
 use Rattle.records.specs.declared.Sizes.{Sizes}
-use Rattle.records.specs.Node.{Node, isRecons, heldBy, weakenedBy, expiredFor, givenBack, ticked, nodeWithin}
+use Rattle.records.specs.Node.{Node, isRecons, heldBy, heldAtL1, weakenedBy, expiredFor, givenBack, ticked, nodeWithin}
 use Rattle.records.specs.View.{oldLmode, oldLmodes}
 use Rattle.stripe.specs.declared.seen.Seen.{Seen}
 use Rattle.stripe.specs.declared.seen.Change.{Change}
@@ -23,14 +23,21 @@ use Rattle.stripe.specs.declared.seen.Change.the-variants.{Keep, Expire,
 pub record Sees (z : Sizes) (c : ℕ) (nodes : List Node) (s : Seen) : Type 0 where
   pub within : s .within ≡ nodesFit z nodes
   pub held : s .held ≡ everyOf (heldBy c) nodes
+  pub tight : s .tight ≡ everyOf (heldAtL1 c) nodes
   pub recons : s .recons ≡ someRecons nodes
 
 -- of no node; one node later
 abbrev pub seenNone : Seen
-seenNone = record { within = true; held = true; recons = false }
+seenNone = record { within = true; held = true; tight = true; recons = false }
 
 abbrev pub seenWith : Sizes → ℕ → Node → Seen → Seen
-seenWith z c x s = record { within = s .within && nodeWithin z x; held = s .held && heldBy c x; recons = s .recons || isRecons (x .opmode) }
+seenWith z c x s =
+    record {
+      within = s .within && nodeWithin z x;
+      held = s .held && heldBy c x;
+      tight = s .tight && heldAtL1 c x;
+      recons = s .recons || isRecons (x .opmode);
+    }
 
 -- the changes: none; "all held by c become EXP"; "nodes still held by c get their old lmode", of nodes 1 to x; "redundant nodes go to L0"; a tick
 abbrev pub keep : Change

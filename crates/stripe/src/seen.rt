@@ -10,10 +10,12 @@ use records::Lmode;
 use records::NodeRecord;
 use records::Sizes;
 
-// Of all n nodes: whether there are n records, each within the limits; whether each is held by the client; whether some is RECONS.
+// Of all n nodes: whether there are n records, each within the limits; whether each is held by the client; whether each is held by it at L1; whether
+// some is RECONS.
 pub struct Seen {
     pub within: bool,
     pub held: bool,
+    pub tight: bool,
     pub recons: bool,
 }
 
@@ -34,6 +36,7 @@ impl Seen {
         Seen {
             within: true,
             held: true,
+            tight: true,
             recons: false,
         }
     }
@@ -45,10 +48,12 @@ impl Seen {
         let opmode = node.opmode;
         let within = self.within & node.is_within(z);
         let held = self.held & node.held_by(c);
+        let tight = self.tight & node.held_at_l1(c);
         let recons = self.recons | opmode.is_recons();
         Seen {
             within: within,
             held: held,
+            tight: tight,
             recons: recons,
         }
     }

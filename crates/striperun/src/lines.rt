@@ -39,7 +39,6 @@ fn play(
     blocks: &mut [u8],
     spare: &mut [u8],
     differences: &mut [u8],
-    shown: &mut [u8],
 ) -> Played {
     match order {
         Order::Image => Played {
@@ -53,16 +52,7 @@ fn play(
             },
             Line::Play(call, count) => {
                 let end = least(count, value.len());
-                step::play(
-                    z,
-                    call,
-                    &value[0..end],
-                    stripe,
-                    blocks,
-                    spare,
-                    differences,
-                    shown,
-                )
+                step::play(z, call, &value[0..end], stripe, blocks, spare, differences)
             }
         },
     }
@@ -78,23 +68,12 @@ fn step(
     blocks: &mut [u8],
     spare: &mut [u8],
     differences: &mut [u8],
-    shown: &mut [u8],
 ) -> State
     requires { ⌜ Tables z (now blocks) ⌝ }
 {
     let stripe = before.stripe;
-    let played = play(z, order, value, stripe, blocks, spare, differences, shown);
-    let at = put_played(
-        out,
-        before.at,
-        z,
-        order,
-        played,
-        blocks,
-        spare,
-        differences,
-        shown,
-    );
+    let played = play(z, order, value, stripe, blocks, spare, differences);
+    let at = put_played(out, before.at, z, order, played, blocks, spare, differences);
     let stripe = played.stripe;
     State { stripe, at }
 }
@@ -109,7 +88,6 @@ fn play_lent(
     spare: &mut [u8],
     differences: &mut [u8],
     value: &mut [u8],
-    shown: &mut [u8],
 )
     requires { ⌜ Tables z (now blocks) ⌝ }
 {
@@ -122,17 +100,7 @@ fn play_lent(
                 return;
             }
             Taken::Line(order, rest) => {
-                state = step(
-                    z,
-                    order,
-                    value,
-                    state,
-                    out,
-                    blocks,
-                    spare,
-                    differences,
-                    shown,
-                );
+                state = step(z, order, value, state, out, blocks, spare, differences);
                 input = rest;
             }
         }
@@ -153,7 +121,6 @@ pub fn play_lines(z: Sizes, input: Input, buffer: &mut [u8], out: &mut [u8])
     let mut spare = [0xAAu8; Sizes::NODES * Limits::BLOCK_MOST];
     let mut differences = [0x55u8; Sizes::CLIENTS * Limits::BLOCK_MOST];
     let mut value = [0u8; Limits::BLOCK_MOST + 1];
-    let mut shown = [0u8; Limits::BLOCK_MOST];
     let b = z.b;
     let longer = b + 1;
     let of_nodes = table_length(z.n, b);
@@ -167,6 +134,5 @@ pub fn play_lines(z: Sizes, input: Input, buffer: &mut [u8], out: &mut [u8])
         &mut spare[0..of_nodes],
         &mut differences[0..of_clients],
         &mut value[0..longer],
-        &mut shown[0..b],
     );
 }

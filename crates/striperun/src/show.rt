@@ -6,6 +6,7 @@ use super::next_line::Order;
 use answers::put_answer;
 use answers::put_image;
 use calls::Call;
+use calls::shown_part;
 use format::state::put_state;
 use records::Sizes;
 use script::reader::Line;
@@ -23,17 +24,27 @@ fn picker(line: Line) -> u8 {
     c
 }
 
+// The position that is read, 0 if the line is no read.
+fn position(line: Line) -> u8 {
+    let Line::Play(call, _) = line else {
+        return 0;
+    };
+    let Call::Read(i) = call else {
+        return 0;
+    };
+    i
+}
+
 // The answer, and what is returned with it.
-fn put_returned(
+fn put_returned<'a>(
     out: &mut [u8],
     at: usize,
     z: Sizes,
     order: Order,
     played: Played,
-    blocks: &[u8],
-    spare: &[u8],
+    blocks: &'a [u8],
+    spare: &'a [u8],
     differences: &[u8],
-    shown: &[u8],
 ) -> usize
     requires { ⌜ z .m ≤ clientLimit ⌝ }
 {
@@ -42,28 +53,30 @@ fn put_returned(
     let clients = stripe.clients;
     match order {
         Order::Image => put_image(out, at, z, stripe, blocks, spare, differences),
-        Order::Call(line) => put_answer(out, at, z.m, picker(line), answer, clients, shown),
+        Order::Call(line) => {
+            let shown = shown_part(answer, z.b, position(line) as usize, blocks, spare);
+            put_answer(out, at, z.m, picker(line), answer, clients, shown)
+        }
     }
 }
 
 // The line of a call or of an image.
-pub fn put_played(
+pub fn put_played<'a>(
     out: &mut [u8],
     mut at: usize,
     z: Sizes,
     order: Order,
     played: Played,
-    blocks: &[u8],
-    spare: &[u8],
+    blocks: &'a [u8],
+    spare: &'a [u8],
     differences: &[u8],
-    shown: &[u8],
 ) -> usize
     requires { ⌜ Tables z (now blocks) ⌝ }
 {
     let stripe = played.stripe;
     let nodes = stripe.nodes;
     let clients = stripe.clients;
-    at = put_returned(out, at, z, order, played, blocks, spare, differences, shown);
+    at = put_returned(out, at, z, order, played, blocks, spare, differences);
     at = put_text(out, at, b" | ");
     put_state(out, at, z, nodes, clients, blocks, spare, differences)
 }

@@ -4,7 +4,7 @@ use mathlib.Core.List.{List}
 use Prim.Native.Nat.{ℕ}
 use lib.Dec.{eqb}
 use lib.ListN.{length}
-use Rattle.machine.specs.Calls.{Call, Read, step}
+use Rattle.machine.specs.Calls.{Call, step}
 use Rattle.machine.specs.Stripe.{Outcome, Stripe, guard}
 use Rattle.records.specs.declared.ClientRecord.{ClientRecord}
 use Rattle.records.specs.declared.NodeRecord.{NodeRecord}
@@ -20,7 +20,3 @@ stripeIn nodes clients blocks spare differences = stripeWith (nodesIn nodes) (cl
 -- "1: .. buffer length outside the limits": the tables of n node records and of m client records are such buffers
 abbrev pub onTables : Sizes → Call → Stripe → Outcome Stripe
 onTables z call s = guard (not (eqb (length (s .nodes)) (z .n) && eqb (length (s .clients)) (z .m))) OutOfLimits s (step z call s)
-
--- a read shows its block in a buffer of B bytes
-abbrev pub reading : Sizes → ℕ → List ℕ → Stripe → Outcome Stripe
-reading z i out s = guard (not (eqb (length (s .nodes)) (z .n) && eqb (length out) (z .b))) OutOfLimits s (step z (Read i) s)

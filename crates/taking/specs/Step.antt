@@ -2,7 +2,6 @@
 use mathlib.Core.List.{List, []}
 use mathlib.Core.Path.{_≡_}
 use Prim.Native.Nat.{ℕ}
-use Rattle.calls.specs.declared.Answer.{Answer}
 use Rattle.calls.specs.declared.Answer.the-variants.{Refused}
 use Rattle.calls.specs.Answers.{Meets}
 use Rattle.calls.specs.Calls.{caller, looksAtAll, stepOf, target}
@@ -11,18 +10,16 @@ use Rattle.rebuild.specs.declared.Stepped.{Stepped}
 use Rattle.records.specs.declared.ClientRecord.{ClientRecord}
 use Rattle.records.specs.declared.NodeRecord.{NodeRecord}
 use Rattle.records.specs.declared.Refusal.the-variants.{OutOfLimits}
-use Rattle.records.specs.Client.{Client}
 use Rattle.records.specs.View.{clientOf, nodeOf}
 use Rattle.step.specs.Steps.{stripeWith}
 use Rattle.stripe.specs.Seen.{applied, keep}
 use Rattle.taking.specs.declared.Found.{Found}
 use Rattle.taking.specs.declared.Looked.{Looked}
-use Rattle.taking.specs.declared.ReadRequest.{ReadRequest}
 use Rattle.taking.specs.declared.Request.{Request}
 use Rattle.taking.specs.declared.Returned.{Returned}
 use Rattle.taking.specs.declared.Sought.{Sought}
 use Rattle.taking.specs.declared.TakenClient.{TakenClient}
-use Rattle.taking.specs.Lent.{onTables, reading, stripeIn}
+use Rattle.taking.specs.Lent.{onTables, stripeIn}
 use Rattle.taking.specs.Table.{ClientTaken, NodeFound, NodesSeen, clientsIn, nodesIn}
 
 -- what a call looks for, by the record of its client
@@ -58,11 +55,3 @@ pub record StepsFound (f : Found) (t : TakenClient) (blocks spare differences va
       (setAt (clientsIn clients) (r .client .c) (clientOf (r .client .client))) blocks′ spare′ differences′)
       ((r .others .change ≡ keep) × ((setAt nodes (r .back .j) (r .back .node) ≡ nodes) × ((setAt clients (r .client .c) (r .client .client) ≡ clients)
       × ((blocks′ ≡ blocks) × ((spare′ ≡ spare) × (differences′ ≡ differences))))))
-
--- a read is at the node of its position
-abbrev pub ReadsFound : Found → List ℕ → List ℕ → ReadRequest → Answer → List ℕ → Type 0
-ReadsFound f out blocks q answer out′ =
-    (nodes : List NodeRecord) (l : Looked) → l .sought .j ≡ q .i → NodeFound nodes l f
-    → (clients : List Client) (spare differences : List ℕ)
-    → Meets (reading (q .z) (q .i) out (stripeWith (nodesIn nodes) clients blocks spare differences))
-    answer out′ (stripeWith (nodesIn nodes) clients blocks spare differences) (out′ ≡ out)

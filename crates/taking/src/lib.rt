@@ -1,6 +1,7 @@
 // A call on the records that were taken out of their tables: what is looked for, the step by value, what is put back. The tables are in crate shelf.
 mod images; // images.rt: an image, of the records of all nodes and all clients
 mod picks; // picks.rt: a pick, on the records of all nodes
+mod reads; // reads.rt: a read, on the records that it goes by
 mod records_at; // records_at.rt: a record that is taken out of its table, and put back
 mod steps; // steps.rt: the call on what was taken out
 
@@ -24,6 +25,14 @@ pub struct Request {
 pub struct ReadRequest {
     pub z: Sizes,
     pub i: u8,
+}
+
+// The same, with the lengths of the blocks and the spare.
+pub struct SizedRead {
+    pub z: Sizes,
+    pub i: u8,
+    pub blocks: usize,
+    pub spare: usize,
 }
 
 // The pick of client c.

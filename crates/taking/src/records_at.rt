@@ -111,10 +111,12 @@ impl Looked {
         let opmode = node.opmode;
         let within = seen.within & node.is_within(z);
         let held = seen.held & node.held_by(sought.c);
+        let tight = seen.tight & node.held_at_l1(sought.c);
         let recons = seen.recons | opmode.is_recons();
         let next = Seen {
             within: within,
             held: held,
+            tight: tight,
             recons: recons,
         };
         Looked {

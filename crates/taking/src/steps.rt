@@ -1,12 +1,10 @@
 // The client and the node of a call, and the call on what was taken out of the tables, by value.
 ghost use mathlib.Core.Path.{_≡_};
 ghost use Rattle.calls.specs.Calls.{caller};
-ghost use Rattle.taking.specs.Step.{After, refusedOf, soughtFor, ReadsFound, StepsFound};
+ghost use Rattle.taking.specs.Step.{After, refusedOf, soughtFor, StepsFound};
 use crate::Back;
 use crate::Found;
-use crate::Looked;
 use crate::Others;
-use crate::ReadRequest;
 use crate::Request;
 use crate::Returned;
 use crate::Sought;
@@ -22,22 +20,6 @@ impl Request {
     {
         let call = self.call;
         call.caller()
-    }
-}
-
-impl ReadRequest {
-    // A read is told nothing of the other nodes.
-    pub fn sought(self) -> Looked
-        ensures { λ r. ⌜ r .sought .j ≡ self .i ⌝ }
-    {
-        let z = self.z;
-        let sought = Sought {
-            z: z,
-            c: 0,
-            j: self.i as usize,
-            all: false,
-        };
-        sought.begin(0)
     }
 }
 
@@ -149,16 +131,5 @@ impl Found {
             differences,
         );
         Returned::after(self, taken, r)
-    }
-
-    pub fn read(self, out: &mut [u8], blocks: &[u8], request: ReadRequest) -> Answer
-        ensures { λ r. ⌜ ReadsFound self (now (out .entry)) (now (blocks .entry)) request r (now (out .exit)) ⌝ }
-    {
-        let z = request.z;
-        let node = self.node;
-        if self.len != z.n {
-            return Answer::Refused(Refusal::OutOfLimits);
-        }
-        swapping::read(z, request.i, node, blocks, out)
     }
 }

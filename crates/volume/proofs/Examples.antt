@@ -11,6 +11,7 @@ use Rattle.machine.specs.Calls.{step}
 use Rattle.machine.specs.Failure as Failure
 use Rattle.machine.specs.Rebuild as Rebuild
 use Rattle.machine.specs.Stripe.{guard}
+use Rattle.machine.specs.Reading as Reading
 use Rattle.machine.specs.Writing as Writing
 use Rattle.records.specs.Client as Client
 use Rattle.records.specs.Node as Node
@@ -23,5 +24,5 @@ unfolding toldOf volumeStep step guard Field.double Field.timesBits Field.produc
 made = refl
 
 pub refused : (outOfRange ≡ 2 ∷ 2 ∷ 2 ∷ 2 ∷ 2 ∷ 2 ∷ []) × (outOfLimits ≡ 1 ∷ 1 ∷ 1 ∷ 1 ∷ []) × (withinLimits ≡ 0)
-unfolding volumeStep step guard Code.codeSizes Sizes.sizesWithin Entries.idsWithin Entries.entriesWithin Node.setWithin Node.nodeWithin Client.clientWithin Blocks.part Lists.listOf Lists.elementAt Lists.setAt Lists.everyOf Lists.someOf Writing.swapTests Writing.swap Writing.read Failure.stop Failure.fail Rebuild.lock Decode.setOf
+unfolding volumeStep step guard Code.codeSizes Sizes.sizesWithin Entries.idsWithin Entries.entriesWithin Node.setWithin Node.nodeWithin Client.clientWithin Blocks.part Lists.listOf Lists.elementAt Lists.setAt Lists.everyOf Lists.someOf Writing.swapTests Writing.swap Reading.read Reading.readOr Failure.stop Failure.fail Rebuild.lock Decode.setOf
 refused = (refl, refl, refl)

@@ -94,7 +94,7 @@ volume-refusals-same z q v why is same =
 -- one answer has the number 1
 pub answer-one : (a : Answer) → number a ≡ 1 → a ≡ Refused OutOfLimits
 answer-one Accepted e = absurd (omega arith)
-answer-one (Shown block) e = absurd (omega arith)
+answer-one (Shown source block) e = absurd (omega arith)
 answer-one Added e = absurd (omega arith)
 answer-one Done e = absurd (omega arith)
 answer-one Rebuilt e = absurd (omega arith)

@@ -7,11 +7,12 @@ use lib.ListN.{length}
 use Rattle.calls.specs.declared.Answer.{Answer}
 use Rattle.parts.specs.Inside.{partIn}
 use Rattle.parts.proofs.Part.{Within}
+use Rattle.records.specs.declared.ClientRecord.{ClientRecord}
 use Rattle.records.specs.declared.NodeRecord.{NodeRecord}
-use Rattle.routing.specs.declared.ReadRequest.{ReadRequest}
-use Rattle.volumeshelf.specs.Volumes.{ReadsVolume}
+use Rattle.routing.specs.declared.SizedRead.{SizedRead}
+use Rattle.volumeshelf.specs.Volumes.{AnswersVolume}
 use Rattle.volumeplay.specs.declared.Turn.{Turn}
-use Rattle.volumeplay.specs.Asking.{ReadsPart, bytesPart, clientsPart, firstOnes, nodesPart, readAsked, valuePart}
+use Rattle.volumeplay.specs.Asking.{AnswersPart, bytesPart, clientsPart, firstOnes, nodesPart, readAsked, valuePart}
 
 first-within : (n len : ℕ) → Within (firstOnes n len) len
 first-within n len = record { order = omega arith; fits = omega arith }
@@ -29,9 +30,9 @@ pub value-within : (t : Turn) (len : ℕ) → Within (valuePart t len) len
 value-within t len = first-within _ len
 
 -- a read that is asked of the parts, answered as it is
-pub reads : (nodes : List NodeRecord) (shown shown′ blocks : List ℕ) (t u : Turn) → u ≡ t → (q : ReadRequest) → q ≡ readAsked u → (a : Answer)
-    → ReadsVolume (partIn (nodesPart u (length nodes)) nodes) shown (partIn (bytesPart u (length blocks)) blocks) q a shown′ → (r : Answer) → r ≡ a
-    → ReadsPart nodes shown blocks t r shown′
-reads nodes shown shown′ blocks t u same q asked a said r is =
-    rw is (subst (λ (x : Turn). ReadsPart nodes shown blocks x a shown′) same
-    (subst (λ (x : ReadRequest). ReadsVolume (partIn (nodesPart u (length nodes)) nodes) shown (partIn (bytesPart u (length blocks)) blocks) x a shown′) asked said))
+pub reads : (nodes : List NodeRecord) (clients : List ClientRecord) (t u : Turn) → u ≡ t → (q : SizedRead) → q ≡ readAsked u → (a : Answer)
+    → AnswersVolume (partIn (nodesPart u (length nodes)) nodes) (partIn (clientsPart u (length clients)) clients) q a → (r : Answer) → r ≡ a
+    → AnswersPart nodes clients t r
+reads nodes clients t u same q asked a said r is =
+    rw is (subst (λ (x : Turn). AnswersPart nodes clients x a) same
+    (subst (λ (x : SizedRead). AnswersVolume (partIn (nodesPart u (length nodes)) nodes) (partIn (clientsPart u (length clients)) clients) x a) asked said))

@@ -7,18 +7,21 @@ use Rattle.calls.specs.declared.Answer.{Answer}
 use Rattle.parts.specs.Inside.{Inside, Range, partIn}
 use Rattle.records.specs.declared.ClientRecord.{ClientRecord}
 use Rattle.records.specs.declared.NodeRecord.{NodeRecord}
-use Rattle.routing.specs.declared.ReadRequest.{ReadRequest}
 use Rattle.routing.specs.declared.Request.{Request}
+use Rattle.routing.specs.declared.SizedRead.{SizedRead}
 use Rattle.routing.specs.Parts.{lengthsOf}
+use Rattle.routing.specs.Walks.{sizedOf}
 use Rattle.volumescript.specs.Asking.{callIn, countIn, readIn}
-use Rattle.volumeshelf.specs.Volumes.{CallsVolume, ReadsVolume}
+use Rattle.volumeshelf.specs.Volumes.{AnswersVolume, CallsVolume}
 use Rattle.volumeplay.specs.declared.Turn.{Turn}
 
 abbrev pub callAsked : Turn → Request
 callAsked t = callIn (t .line) (t .player .volume)
 
-abbrev pub readAsked : Turn → ReadRequest
-readAsked t = readIn (t .line) (t .player .volume)
+abbrev pub readAsked : Turn → SizedRead
+readAsked t =
+    let blocks = lengthsOf (t .player .volume) .blocks in
+    sizedOf (readIn (t .line) (t .player .volume)) blocks blocks
 
 -- ---- the parts
 
@@ -37,7 +40,7 @@ bytesPart t len = record { first = 0; end = len }
 abbrev pub valuePart : Turn → ℕ → Range
 valuePart t len = firstOnes (countIn (t .line)) len
 
--- the call is volumeshelf's on these parts, and so is the read; what is shown, and the answer to a line that is no read, are as it leaves them
+-- the call is volumeshelf's on these parts, and so is what the read is answered
 abbrev pub CallsPart : List NodeRecord → List ClientRecord → List ℕ → List ℕ → List ℕ → List ℕ → Turn → Answer
     → List NodeRecord → List ClientRecord → List ℕ → List ℕ → List ℕ → Type 0
 CallsPart nodes clients blocks spare differences value t answer nodes′ clients′ blocks′ spare′ differences′ =
@@ -45,6 +48,6 @@ CallsPart nodes clients blocks spare differences value t answer nodes′ clients
     (bytesPart t (length differences)) (valuePart t (length value))
     nodes clients blocks spare differences value (callAsked t) answer nodes′ clients′ blocks′ spare′ differences′
 
-abbrev pub ReadsPart : List NodeRecord → List ℕ → List ℕ → Turn → Answer → List ℕ → Type 0
-ReadsPart nodes shown blocks t answer shown′ =
-    ReadsVolume (partIn (nodesPart t (length nodes)) nodes) shown (partIn (bytesPart t (length blocks)) blocks) (readAsked t) answer shown′
+abbrev pub AnswersPart : List NodeRecord → List ClientRecord → Turn → Answer → Type 0
+AnswersPart nodes clients t answer =
+    AnswersVolume (partIn (nodesPart t (length nodes)) nodes) (partIn (clientsPart t (length clients)) clients) (readAsked t) answer

@@ -4,8 +4,8 @@ ghost use Prim.Native.Nat.{min};
 ghost use Rattle.volumeplay.specs.Asking.{callAsked, clientsPart, nodesPart, readAsked, valuePart};
 use crate::Turn;
 use calls::Answer;
-use routing::ReadRequest;
 use routing::Request;
+use routing::SizedRead;
 use routing::Volume;
 
 fn least(a: usize, b: usize) -> usize
@@ -69,17 +69,20 @@ impl Turn {
 
     // ---- a read
 
-    pub(crate) fn begin_read(self, nodes: usize, shown: usize, blocks: usize) -> Turn
+    pub(crate) fn begin_read(self, nodes: usize, clients: usize) -> Turn
         ensures { λ r. ⌜ r ≡ self ⌝ }
     {
         self
     }
 
-    pub(crate) fn read(self) -> ReadRequest
+    // The bytes have been cut out: the blocks and the spare have the volume's length.
+    pub(crate) fn read(self) -> SizedRead
         ensures { λ r. ⌜ r ≡ readAsked self ⌝ }
     {
         let line = self.line;
-        line.read(self.volume())
+        let volume = self.volume();
+        let lengths = volume.lengths();
+        line.read(volume).sized(lengths.blocks, lengths.blocks)
     }
 
     pub(crate) fn after_read(self, answer: Answer) -> Answer

@@ -1,6 +1,6 @@
 // The lines of a script, one after the other, on the volume's tables. Each of these is walked by a law.
 ghost use mathlib.Core.Path.{_≡_};
-ghost use Rattle.volumeplay.specs.Asking.{CallsPart, ReadsPart};
+ghost use Rattle.volumeplay.specs.Asking.{AnswersPart, CallsPart};
 use crate::CLIENTS;
 use crate::NODES;
 use crate::Player;
@@ -54,20 +54,19 @@ fn call_part(
     )
 }
 
-// The line's read.
-fn read_part(nodes: &[NodeRecord], shown: &mut [u8], blocks: &[u8], turn: Turn) -> Answer
-    ensures { λ r. ⌜ ReadsPart (now (nodes .entry)) (now (shown .entry)) (now (blocks .entry)) turn r (now (shown .exit)) ⌝ }
+// What the line's read is answered.
+fn read_part(nodes: &[NodeRecord], clients: &[ClientRecord], turn: Turn) -> Answer
+    ensures { λ r. ⌜ AnswersPart (now (nodes .entry)) (now (clients .entry)) turn r ⌝ }
 {
     let n0 = nodes.len();
-    let n1 = shown.len();
-    let n2 = blocks.len();
-    let walk = turn.begin_read(n0, n1, n2);
+    let n1 = clients.len();
+    let walk = turn.begin_read(n0, n1);
     let a0 = walk.from(n0);
     let e0 = walk.nodes_to(n0);
-    let a2 = walk.from(n2);
-    let e2 = walk.bytes_to(n2);
+    let a1 = walk.from(n1);
+    let e1 = walk.clients_to(n1);
     let inner = walk.read();
-    let answer = volumeshelf::read(&nodes[a0..e0], shown, &blocks[a2..e2], inner);
+    let answer = volumeshelf::read_answer(&nodes[a0..e0], &clients[a1..e1], inner);
     walk.after_read(answer)
 }
 
@@ -77,7 +76,6 @@ pub fn play(
     spare: &mut [u8],
     differences: &mut [u8],
     value: &mut [u8],
-    shown: &mut [u8],
     buffer: &mut [u8],
     out: &mut [u8],
     node: NodeRecord,
@@ -100,20 +98,10 @@ pub fn play(
             value,
             turn,
         );
-        let told = read_part(&nodes, shown, blocks, turn);
+        let told = read_part(&nodes, &clients, turn);
         let seen = take_nodes(&nodes, turn);
         let taken = take_clients(&clients, turn);
-        let next = turn.print(
-            answer,
-            told,
-            seen,
-            taken,
-            blocks,
-            spare,
-            differences,
-            shown,
-            out,
-        );
+        let next = turn.print(answer, told, seen, taken, blocks, spare, differences, out);
         now = next;
     }
     now

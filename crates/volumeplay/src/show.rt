@@ -1,19 +1,16 @@
 // What is printed of a line: `ANSWER RETURNED`, or `0 STATE`.
-ghost use mathlib.Core.Path.{_≡_};
 ghost use Prim.Native.Nat.{_≤_};
-ghost use lib.ListN.{length};
-ghost use Rattle.parts.specs.Inside.{partIn};
-ghost use Rattle.routing.specs.Parts.{partOf};
 use crate::Player;
 use crate::Turn;
 use crate::stripes::ClientsTaken;
 use crate::stripes::NodesTaken;
 use answers::put_answer;
+use blocks::block_of;
 use calls::Answer;
 use format::state::put_state;
+use records::Source;
 use routing::Volume;
-use routing::part_from;
-use routing::part_to;
+use routing::stripe_part;
 use routing::table_blocks;
 use routing::table_differences;
 use step::Clients;
@@ -22,16 +19,6 @@ use streams::output::put;
 use streams::output::put_text;
 use stripe::Nodes;
 use volumescript::reader::VolumeLine;
-
-// The part of stripe s of a table with so many bytes for each; an empty one if it is not all there.
-fn stripe_part(table: &[u8], s: usize, each: usize) -> &[u8]
-    ensures { λ r. ⌜ now r ≡ partIn (partOf s each (length (now (table .entry)))) (now (table .entry)) ⌝ }
-{
-    let len = table.len();
-    let from = part_from(s, each, len);
-    let to = part_to(s, each, len);
-    &table[from..to]
-}
 
 // Stripe s, if there is one.
 fn put_stripe(
@@ -62,6 +49,27 @@ fn put_stripe(
     put_state(out, next, z, nodes, clients, blocks, spare, differences)
 }
 
+// An answer, and what is returned with it; the block that a read shows is in this table.
+fn put_given(
+    out: &mut [u8],
+    at: usize,
+    volume: Volume,
+    line: VolumeLine,
+    given: Answer,
+    clients: Clients,
+    table: &[u8],
+) -> usize {
+    let z = volume.z;
+    if !z.within() {
+        return put_text(out, at, b"1 -\n");
+    }
+    let read = line.read(volume);
+    let own = stripe_part(table, read.stripe, table_blocks(z));
+    let shown = block_of(own, z.b, read.i as usize);
+    let next = put_answer(out, at, z.m, line.picker(), given, clients, shown);
+    put(out, next, b'\n')
+}
+
 // The answer of the call, and that of the read: one of them was refused, since a line is not both.
 fn put_call(
     out: &mut [u8],
@@ -71,15 +79,17 @@ fn put_call(
     answer: Answer,
     told: Answer,
     clients: Clients,
-    shown: &[u8],
+    blocks: &[u8],
+    spare: &[u8],
 ) -> usize {
-    let z = volume.z;
-    if !z.within() {
-        return put_text(out, at, b"1 -\n");
-    }
     let given = if line.is_read() { told } else { answer };
-    let next = put_answer(out, at, z.m, line.picker(), given, clients, shown);
-    put(out, next, b'\n')
+    let Answer::Shown(source) = given else {
+        return put_given(out, at, volume, line, given, clients, blocks);
+    };
+    match source {
+        Source::Live => put_given(out, at, volume, line, given, clients, blocks),
+        Source::Spare => put_given(out, at, volume, line, given, clients, spare),
+    }
 }
 
 impl Turn {
@@ -93,7 +103,6 @@ impl Turn {
         blocks: &[u8],
         spare: &[u8],
         differences: &[u8],
-        shown: &[u8],
         out: &mut [u8],
     ) -> Player
         ensures { λ r. ⌜ r .left ≤ self .player .left ⌝ }
@@ -125,7 +134,17 @@ impl Turn {
                 spare,
                 differences,
             ),
-            _ => put_call(out, player.at, volume, line, answer, told, clients, shown),
+            _ => put_call(
+                out,
+                player.at,
+                volume,
+                line,
+                answer,
+                told,
+                clients,
+                blocks,
+                spare,
+            ),
         };
         Player {
             left: player.left,

@@ -2,7 +2,6 @@
 use mathlib.Core.Bool.{Bool, _&&_}
 use Prim.Native.Nat.{_≤_}
 use lib.Dec.{leb}
-use Rattle.records.specs.Sizes.{blockLimit}
 use Rattle.routing.specs.declared.Lengths.{Lengths}
 use Rattle.routing.specs.declared.Volume.{Volume}
 use Rattle.routing.specs.Parts.{lengthsOf}
@@ -17,6 +16,5 @@ fitsIn v = fitsLengths (lengthsOf v)
 
 -- what the tables of bytes are cut by
 pub record Fits (v : Volume) : Type 0 where
-  pub block : v .z .b ≤ blockLimit
   pub blocks : lengthsOf v .blocks ≤ 131072
   pub differences : lengthsOf v .differences ≤ 262144

@@ -14,15 +14,12 @@ use volumeplay::NODES;
 use volumeplay::Player;
 use volumeplay::entry;
 
-// What there is memory for beside the records, of all stripes together: bytes of blocks, and of spare as many, bytes of differences, bytes of a value; and
-// of a block that is shown.
+// What there is memory for beside the records, of all stripes together: bytes of blocks, and of spare as many, bytes of differences, bytes of a value.
 const BLOCKS: usize = 131_072;
 
 const DIFFERENCES: usize = 262_144;
 
 const VALUE: usize = 32_768;
-
-const SHOWN: usize = 4096;
 
 fn fits(volume: Volume) -> bool
     ensures { λ r. ⌜ r ≡ fitsIn volume ⌝ }
@@ -42,10 +39,7 @@ fn play_lines(volume: Volume, input: Input, buffer: &mut [u8], out: &mut [u8])
     let mut spare = [0xAAu8; BLOCKS];
     let mut differences = [0x55u8; DIFFERENCES];
     let mut value = [0u8; VALUE + 1];
-    let mut shown = [0u8; SHOWN];
-    let z = volume.z;
     let lengths = volume.lengths();
-    let b = z.b;
     let of_nodes = lengths.blocks;
     let of_clients = lengths.differences;
     let start = Player {
@@ -59,7 +53,6 @@ fn play_lines(volume: Volume, input: Input, buffer: &mut [u8], out: &mut [u8])
         &mut spare[0..of_nodes],
         &mut differences[0..of_clients],
         &mut value,
-        &mut shown[0..b],
         buffer,
         out,
         NodeRecord::fresh(),

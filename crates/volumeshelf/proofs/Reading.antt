@@ -1,6 +1,6 @@
 -- What a read of a volume says, from the read of a stripe's parts. Assumes nothing.
-use mathlib.Core.Bool.{Bool, true, false, cond, _&&_, not, and-comm, and-true}
-use mathlib.Core.List.{List, []}
+use mathlib.Core.Bool.{Bool, true, false, cond, _&&_, not, and-true}
+use mathlib.Core.List.{List}
 use mathlib.Core.Path.{_≡_, refl, sym, ap, _∙_, subst}
 use Prim.Native.Nat.{ℕ, _*_, _<_}
 use native.Mathlib.Nat.{mul-le-mul}
@@ -11,12 +11,11 @@ use borrow.Author.Tests.{eq-eqb, eqb-true, le-ltb, leb-false, leb-true, lt-ltb}
 use Rattle.basics.proofs.Tests.{and-left, and-right}
 use Rattle.calls.specs.declared.Answer.{Answer}
 use Rattle.calls.specs.declared.Answer.the-variants.{Accepted, Refused}
-use Rattle.calls.specs.Answers.{Meets, answerOf}
-use Rattle.calls.proofs.Numbers.{left-one}
-use Rattle.code.specs.Code.{codeSizes}
+use Rattle.calls.specs.Answers.{answerOf, readAs, shownPart}
+use Rattle.calls.proofs.Answer as answer
+use Rattle.lent.proofs.ShowEntry as show-entry
 use Rattle.machine.specs.Calls.{Read, step}
-use Rattle.machine.specs.Stripe.{Outcome, Stripe, answered, guard, number, refused}
-use Rattle.machine.proofs.Outside.{step-outside}
+use Rattle.machine.specs.Stripe.{Outcome, Stripe, answered, guard}
 use Rattle.parts.specs.Inside.{Range, partIn}
 use Rattle.parts.proofs.Part.{Within}
 use Rattle.records.specs.declared.ClientRecord.{ClientRecord}
@@ -25,66 +24,70 @@ use Rattle.records.specs.declared.Refusal.{Refusal}
 use Rattle.records.specs.declared.Refusal.the-variants.{OutOfLimits, OutOfRange}
 use Rattle.records.specs.declared.Sizes.{Sizes}
 use Rattle.records.specs.Sizes.{sizesWithin}
-use Rattle.records.specs.View.{nodeOf}
-use Rattle.shelf.specs.Shelf.{ReadsLent}
-use Rattle.taking.specs.declared.ReadRequest.{ReadRequest}
-use Rattle.taking.specs.Lent.{stripeIn}
-use Rattle.taking.specs.Lent as taking
-use Rattle.taking.specs.Table.{clientsIn, nodesIn}
-use Rattle.step.specs.Steps.{stripeWith}
+use Rattle.records.specs.View.{clientOf, nodeOf}
+use Rattle.records.proofs.ClientRecord as client
+use Rattle.records.proofs.NodeRecord as node
+use Rattle.shelf.proofs.Types.{answer-rec}
+use Rattle.step.proofs.Types.{reading-shows}
+use Rattle.taking.specs.declared.SizedRead as taking
+use Rattle.taking.specs.Lent.{onTables, stripeIn}
+use Rattle.taking.specs.Reads.{AnswersLent}
 use Rattle.volume.specs.Volume as Machine
 use Rattle.volume.specs.Volume.{on, onOne, putStripe, stripeAt, volumeStep}
 use Rattle.volume.proofs.Steps.{put-itself}
-use Rattle.routing.specs.declared.ReadRequest as request
+use Rattle.routing.specs.declared.ReadRequest.{ReadRequest}
 use Rattle.routing.specs.declared.ReadWalk.{ReadWalk}
+use Rattle.routing.specs.declared.SizedRead.{SizedRead}
 use Rattle.routing.specs.declared.Volume.{Volume}
 use Rattle.routing.specs.Parts.{partOf, tableBlocks, volumeWithin}
-use Rattle.volumeshelf.specs.Volumes.{ReadsVolume, ofStripe, reading, volumeIn}
-use Rattle.routing.specs.Walks.{noSizes, readAfterOf, readBegunOf, readFits, readRequestOf, readWalk}
+use Rattle.volumeshelf.specs.Volumes.{AnswersVolume, ReadsVolume, ofStripe, reading, volumeIn}
+use Rattle.routing.specs.Walks.{readAfterOf, readBegunOf, readFits, readRequestOf, readWalk, shownOf, sizedOf}
+use Rattle.routing.proofs.Parts.{part-within}
+use Rattle.routing.proofs.ReadRequest as read-request
+use Rattle.routing.proofs.SizedRead as sized-read
 use Rattle.routing.proofs.Within.{Small, blocks-table, small}
-use Rattle.volumeshelf.proofs.Parts.{part-within}
 use Rattle.volumeshelf.proofs.Ranges.{part-is}
 use Rattle.volumeshelf.proofs.Turn.{Lent, stripe-at, stripe-count, stripe-length}
+use Rattle.volumeshelf.proofs.Types.{read-request-rec, sized-read-rec}
 
--- the parts that are read
+-- the parts that are looked at
 abbrev pub readNodes : ReadWalk → ℕ → Range
 readNodes t len = partOf (t .at) (t .volume .z .n) len
 
-abbrev pub readBlocks : ReadWalk → ℕ → Range
-readBlocks t len = partOf (t .at) (tableBlocks (t .volume .z)) len
+abbrev pub readClients : ReadWalk → ℕ → Range
+readClients t len = partOf (t .at) (t .volume .z .m) len
 
 pub nodes-within : (t : ReadWalk) (n : ℕ) → Within (readNodes t n) n
 nodes-within t n = part-within (t .at) (t .volume .z .n) n
 
-pub blocks-within : (t : ReadWalk) (n : ℕ) → Within (readBlocks t n) n
-blocks-within t n = part-within (t .at) (tableBlocks (t .volume .z)) n
+pub clients-within : (t : ReadWalk) (n : ℕ) → Within (readClients t n) n
+clients-within t n = part-within (t .at) (t .volume .z .m) n
 
 -- ---- the volume's own tests
 
 -- the test of the lengths, as the volume's machine has it
-abbrev lengthsFit : request.ReadRequest → ℕ → ℕ → ℕ → Bool
-lengthsFit q nodes out blocks =
-    let z = q .volume .z in
-    eqb nodes (q .volume .stripes * z .n) && (eqb blocks (q .volume .stripes * (z .n * z .b)) && eqb out (z .b))
+abbrev lengthsFit : SizedRead → ℕ → ℕ → Bool
+lengthsFit q nodes clients =
+    let v = q .volume in
+    let all = v .stripes * (v .z .n * v .z .b) in
+    eqb nodes (v .stripes * v .z .n) && (eqb clients (v .stripes * v .z .m) && (eqb (q .blocks) all && eqb (q .spare) all))
 
-fits-is : (q : request.ReadRequest) (nodes out blocks : ℕ) → readFits q nodes out blocks ≡ (volumeWithin (q .volume) && lengthsFit q nodes out blocks)
-fits-is q nodes out blocks = by (volumeWithin (q .volume)) refl
+fits-is : (q : SizedRead) (nodes clients : ℕ) → readFits q nodes clients ≡ (volumeWithin (q .volume) && lengthsFit q nodes clients)
+fits-is q nodes clients = by (volumeWithin (q .volume)) refl
   where
-    by : (t : Bool) → volumeWithin (q .volume) ≡ t → readFits q nodes out blocks ≡ (t && lengthsFit q nodes out blocks)
-    by true e =
-        let z = q .volume .z in
-        rw (e, blocks-table z (small (q .volume) e .n) (small (q .volume) e .b))
-        (ap (λ t. eqb nodes (q .volume .stripes * z .n) && t) (and-comm (eqb out (z .b)) (eqb blocks (q .volume .stripes * (z .n * z .b)))))
+    by : (t : Bool) → volumeWithin (q .volume) ≡ t → readFits q nodes clients ≡ (t && lengthsFit q nodes clients)
+    by true e = rw (e, blocks-table (q .volume .z) (small (q .volume) e .n) (small (q .volume) e .b)) refl
     by false e = rw e refl
 
-record Fitting (q : request.ReadRequest) (nodes out blocks : ℕ) : Type 0 where
+record Fitting (q : SizedRead) (nodes clients : ℕ) : Type 0 where
   within : volumeWithin (q .volume) ≡ true
   nodes-len : nodes ≡ q .volume .stripes * q .volume .z .n
-  blocks-len : blocks ≡ q .volume .stripes * (q .volume .z .n * q .volume .z .b)
-  out-len : out ≡ q .volume .z .b
+  clients-len : clients ≡ q .volume .stripes * q .volume .z .m
+  blocks-len : q .blocks ≡ q .volume .stripes * (q .volume .z .n * q .volume .z .b)
+  spare-len : q .spare ≡ q .volume .stripes * (q .volume .z .n * q .volume .z .b)
 
-fitting : (q : request.ReadRequest) (nodes out blocks : ℕ) → (volumeWithin (q .volume) && lengthsFit q nodes out blocks) ≡ true → Fitting q nodes out blocks
-fitting q nodes out blocks e = search (and-left, and-right, eqb-true)
+fitting : (q : SizedRead) (nodes clients : ℕ) → (volumeWithin (q .volume) && lengthsFit q nodes clients) ≡ true → Fitting q nodes clients
+fitting q nodes clients e = search (and-left, and-right, eqb-true)
 
 two-guards : {S : Type 0} (a b : Bool) (why : Refusal) (s : S) (o : Outcome S) → guard (not b) why s (guard (not a) why s o) ≡ guard (not (a && b)) why s o
 unfolding guard
@@ -93,7 +96,8 @@ two-guards true false why s o = refl
 two-guards false true why s o = refl
 two-guards false false why s o = refl
 
-module _ (q : request.ReadRequest) (out : List ℕ) (nodes : List NodeRecord) (clients : List ClientRecord) (blocks spare differences : List ℕ) where
+module _ (q : SizedRead) (nodes : List NodeRecord) (clients : List ClientRecord) (blocks spare differences : List ℕ) (eb : q .blocks ≡ length blocks)
+    (es : q .spare ≡ length spare) where
   abbrev lent : Lent
   lent = record { nodes = nodes; clients = clients; blocks = blocks; spare = spare; differences = differences }
 
@@ -108,135 +112,140 @@ module _ (q : request.ReadRequest) (out : List ℕ) (nodes : List NodeRecord) (c
   steps-by = rw (stripe-count (q .volume) lent, and-true (sizesWithin (q .volume .z))) refl
 
   -- 1, then 2, then the stripe's own
-  reading-is : reading q out nodes clients blocks spare differences
-      ≡ guard (not (readFits q (length nodes) (length out) (length blocks))) OutOfLimits tables in-range
+  reading-is : reading (q .volume) (q .stripe) (q .i) nodes clients blocks spare differences
+      ≡ guard (not (readFits q (length nodes) (length clients))) OutOfLimits tables in-range
   reading-is =
-      let fit = lengthsFit q (length nodes) (length out) (length blocks) in
-      ap (guard (not fit) OutOfLimits tables) steps-by ∙ two-guards (volumeWithin (q .volume)) fit OutOfLimits tables in-range
-      ∙ ap (λ t. guard (not t) OutOfLimits tables in-range) (sym (fits-is q (length nodes) (length out) (length blocks)))
+      let fit = lengthsFit q (length nodes) (length clients) in
+      rw (← eb, ← es) (ap (guard (not fit) OutOfLimits tables) steps-by) ∙ two-guards (volumeWithin (q .volume)) fit OutOfLimits tables in-range
+      ∙ ap (λ t. guard (not t) OutOfLimits tables in-range) (sym (fits-is q (length nodes) (length clients)))
 
--- ---- a read that goes to no stripe leaves the buffer as it was
+  -- ---- a read of a stripe
 
-none-read : (nodes : List NodeRecord) (out blocks : List ℕ) (r : Answer) (out′ : List ℕ) → ReadsLent nodes out blocks (record { z = noSizes; i = 0 }) r out′
-    → out′ ≡ out
-unfolding guard sizesWithin codeSizes
-none-read nodes out blocks r out′ went =
-    left-one r out′ (ap (λ o. number (o .answer)) (m .said ∙ outside (not (eqb (length (nodesIn nodes)) 0 && eqb (length out) 0)))) (m .left)
-  where
-    s : Stripe
-    s = stripeWith (nodesIn nodes) [] blocks [] []
+  module _ (fits : readFits q (length nodes) (length clients) ≡ true) (h : q .stripe < q .volume .stripes) where
+    abbrev v : Volume
+    v = q .volume
 
-    m : Meets (taking.reading noSizes 0 out s) r out′ s (out′ ≡ out)
-    m = went [] [] []
+    abbrev z : Sizes
+    z = q .volume .z
 
-    outside : (t : Bool) → guard t OutOfLimits s (step noSizes (Read 0) s) ≡ refused OutOfLimits s
-    outside true = refl
-    outside false = sym (step-outside noSizes s refl (Read 0))
+    abbrev s : ℕ
+    s = q .stripe
 
--- ---- a read of a stripe
+    fit : Fitting q (length nodes) (length clients)
+    fit = fitting q (length nodes) (length clients) (sym (fits-is q (length nodes) (length clients)) ∙ fits)
 
-module _ (q : request.ReadRequest) (nodes : List NodeRecord) (out blocks : List ℕ) (fits : readFits q (length nodes) (length out) (length blocks) ≡ true)
-    (h : q .stripe < q .volume .stripes) where
-  abbrev v : Volume
-  v = q .volume
+    limits : Small v
+    limits = small v (fit .within)
 
-  abbrev z : Sizes
-  z = q .volume .z
+    each-is : tableBlocks z ≡ z .n * z .b
+    each-is = blocks-table z (limits .n) (limits .b)
 
-  abbrev s : ℕ
-  s = q .stripe
+    -- its parts are those of the stripe
+    nodes-part : partIn (partOf s (z .n) (length nodes)) nodes ≡ ofStripe s (z .n) nodes
+    nodes-part = part-is s (z .n) (v .stripes) nodes h (limits .stripes) (omega (arith, limits .n)) (fit .nodes-len) nodes
 
-  fit : Fitting q (length nodes) (length out) (length blocks)
-  fit = fitting q (length nodes) (length out) (length blocks) (sym (fits-is q (length nodes) (length out) (length blocks)) ∙ fits)
+    clients-part : partIn (partOf s (z .m) (length clients)) clients ≡ ofStripe s (z .m) clients
+    clients-part = part-is s (z .m) (v .stripes) clients h (limits .stripes) (omega (arith, limits .m)) (fit .clients-len) clients
 
-  limits : Small v
-  limits = small v (fit .within)
+    table-part : (table : List ℕ) → length table ≡ v .stripes * (z .n * z .b) → partIn (partOf s (tableBlocks z) (length table)) table ≡ ofStripe s (z .n * z .b) table
+    table-part table len =
+        ap (λ k. partIn (partOf s k (length table)) table) each-is
+        ∙ part-is s (z .n * z .b) (v .stripes) table h (limits .stripes) (mul-le-mul (limits .n) (limits .b)) len table
 
-  -- its parts are those of the stripe
-  nodes-part : partIn (partOf s (z .n) (length nodes)) nodes ≡ ofStripe s (z .n) nodes
-  nodes-part = part-is s (z .n) (v .stripes) nodes h (limits .stripes) (omega (arith, limits .n)) (fit .nodes-len) nodes
+    blocks-len : length blocks ≡ v .stripes * (z .n * z .b)
+    blocks-len = sym eb ∙ fit .blocks-len
 
-  blocks-part : partIn (partOf s (tableBlocks z) (length blocks)) blocks ≡ ofStripe s (z .n * z .b) blocks
-  blocks-part =
-      let is = blocks-table z (limits .n) (limits .b) in
-      ap (λ k. partIn (partOf s k (length blocks)) blocks) is
-      ∙ part-is s (z .n * z .b) (v .stripes) blocks h (limits .stripes) (mul-le-mul (limits .n) (limits .b)) (fit .blocks-len) blocks
+    spare-len : length spare ≡ v .stripes * (z .n * z .b)
+    spare-len = sym es ∙ fit .spare-len
 
-  module _ (r : Answer) (out′ : List ℕ)
-      (went : ReadsLent (partIn (partOf s (z .n) (length nodes)) nodes) out (partIn (partOf s (tableBlocks z) (length blocks)) blocks)
-      (record { z = z; i = q .i }) r out′)
-      (clients : List ClientRecord) (spare differences : List ℕ) where
-    abbrev all : Machine.Volume
-    all = volumeIn v nodes clients blocks spare differences
+    -- what shelf was asked
+    abbrev asked : taking.SizedRead
+    asked = record { z = z; i = q .i; blocks = tableBlocks z; spare = tableBlocks z }
 
-    abbrev its : Stripe
-    its = stripeIn (ofStripe s (z .n) nodes) (ofStripe s (z .m) clients) (ofStripe s (z .n * z .b) blocks) (ofStripe s (z .n * z .b) spare)
-        (ofStripe s (z .m * z .b) differences)
+    module _ (r : Answer) (went : AnswersLent (partIn (partOf s (z .n) (length nodes)) nodes) (partIn (partOf s (z .m) (length clients)) clients) asked r) where
+      abbrev its : Stripe
+      its = stripeIn (ofStripe s (z .n) nodes) (ofStripe s (z .m) clients) (ofStripe s (z .n * z .b) blocks) (ofStripe s (z .n * z .b) spare)
+          (ofStripe s (z .m * z .b) differences)
 
-    its-is : stripeAt all s ≡ its
-    its-is = stripe-at v (lent q out nodes clients blocks spare differences) s h
+      its-is : stripeAt tables s ≡ its
+      its-is = stripe-at v lent s h
 
-    own : Meets (taking.reading z (q .i) out its) r out′ its (out′ ≡ out)
-    own =
-        let on-nodes = subst (λ a. ReadsLent a out (partIn (partOf s (tableBlocks z) (length blocks)) blocks) (record { z = z; i = q .i }) r out′) nodes-part
-        went in
-        subst (λ b. ReadsLent (ofStripe s (z .n) nodes) out b (record { z = z; i = q .i }) r out′) blocks-part on-nodes
-        (clientsIn (ofStripe s (z .m) clients)) (ofStripe s (z .n * z .b) spare) (ofStripe s (z .m * z .b) differences)
+      own : readAs r (z .b) (q .i) its ≡ onTables z (Read (q .i)) its
+      own =
+          subst (λ c. AnswersLent (ofStripe s (z .n) nodes) c asked r) clients-part
+          (subst (λ a. AnswersLent a (partIn (partOf s (z .m) (length clients)) clients) asked r) nodes-part went)
+          (ofStripe s (z .n * z .b) blocks) (ofStripe s (z .n * z .b) spare) (ofStripe s (z .m * z .b) differences)
+          (each-is ∙ sym (stripe-length s (z .n * z .b) (v .stripes) blocks h blocks-len)) (each-is ∙ sym (stripe-length s (z .n * z .b) (v .stripes) spare h spare-len))
 
-    steps-own : taking.reading z (q .i) out its ≡ step z (Read (q .i)) its
-    unfolding guard
-    steps-own = rw (
-      eq-eqb _ _ (length-map (ofStripe s (z .n) nodes) nodeOf ∙ stripe-length s (z .n) (v .stripes) nodes h (fit .nodes-len)),
-      eq-eqb _ _ (fit .out-len),
-    ) refl
+      steps-own : onTables z (Read (q .i)) its ≡ step z (Read (q .i)) its
+      unfolding guard
+      steps-own = rw (
+        eq-eqb _ _ (length-map (ofStripe s (z .n) nodes) nodeOf ∙ stripe-length s (z .n) (v .stripes) nodes h (fit .nodes-len)),
+        eq-eqb _ _ (length-map (ofStripe s (z .m) clients) clientOf ∙ stripe-length s (z .m) (v .stripes) clients h (fit .clients-len)),
+      ) refl
 
-    stripe-read : Meets (reading q out nodes clients blocks spare differences) r out′ all (out′ ≡ out)
-    unfolding guard
-    stripe-read = record {
-      said =
-          ap (answered (answerOf r out′)) (sym (ap (λ x. putStripe s x all) (sym its-is) ∙ put-itself all s))
-          ∙ ap (λ o. answered (o .answer) (putStripe s (o .after) all)) (own .said ∙ steps-own ∙ ap (step z (Read (q .i))) (sym its-is))
-          ∙ sym (reading-is q out nodes clients blocks spare differences ∙ rw (fits, lt-ltb s (v .stripes) h) refl);
-      left = own .left;
-    }
+      -- the block that it names
+      shown-is : shownOf q r blocks spare ≡ shownPart r (z .b) (q .i) (ofStripe s (z .n * z .b) blocks) (ofStripe s (z .n * z .b) spare)
+      shown-is = (λ d. shownPart r (z .b) (q .i) (table-part blocks blocks-len d) (table-part spare spare-len d))
+
+      stripe-read : answered (answerOf r (shownOf q r blocks spare)) tables ≡ reading (q .volume) (q .stripe) (q .i) nodes clients blocks spare differences
+      unfolding guard
+      stripe-read =
+          ap (λ u. answered (answerOf r u) tables) shown-is
+          ∙ ap (answered (answerOf r (shownPart r (z .b) (q .i) (ofStripe s (z .n * z .b) blocks) (ofStripe s (z .n * z .b) spare))))
+          (sym (ap (λ x. putStripe s x tables) (sym its-is) ∙ put-itself tables s))
+          ∙ ap (λ o. answered (o .answer) (putStripe s (o .after) tables)) (own ∙ steps-own ∙ ap (step z (Read (q .i))) (sym its-is))
+          ∙ sym (reading-is ∙ rw (fits, lt-ltb s (v .stripes) h) refl)
 
 -- ---- all three
 
-pub reads : (nodes : List NodeRecord) (out out′ blocks : List ℕ) (q : request.ReadRequest) (t : ReadWalk)
-    → t ≡ readBegunOf q (length nodes) (length out) (length blocks) → (x : ReadRequest) → x ≡ readRequestOf t → (r : Answer)
-    → ReadsLent (partIn (readNodes t (length nodes)) nodes) out (partIn (readBlocks t (length blocks)) blocks) x r out′ → (u : Answer) → u ≡ readAfterOf t r
-    → ReadsVolume nodes out blocks q u out′
+pub answers : (nodes : List NodeRecord) (clients : List ClientRecord) (q : SizedRead) (t : ReadWalk) → t ≡ readBegunOf q (length nodes) (length clients)
+    → (x : taking.SizedRead) → x ≡ readRequestOf t → (r : Answer)
+    → AnswersLent (partIn (readNodes t (length nodes)) nodes) (partIn (readClients t (length clients)) clients) x r → (u : Answer) → u ≡ readAfterOf t r
+    → AnswersVolume nodes clients q u
 unfolding guard
-reads nodes out out′ blocks q t begun x asked r went u after clients spare differences =
-    by (readFits q (length nodes) (length out) (length blocks)) (leb (q .volume .stripes) (q .stripe)) refl refl begun
+answers nodes clients q t begun x asked r went u after blocks spare differences eb es =
+    by (readFits q (length nodes) (length clients)) (leb (q .volume .stripes) (q .stripe)) refl refl begun
   where
-    is : reading q out nodes clients blocks spare differences
-        ≡ guard (not (readFits q (length nodes) (length out) (length blocks))) OutOfLimits (tables q out nodes clients blocks spare differences)
-        (in-range q out nodes clients blocks spare differences)
-    is = reading-is q out nodes clients blocks spare differences
+    is : reading (q .volume) (q .stripe) (q .i) nodes clients blocks spare differences
+        ≡ guard (not (readFits q (length nodes) (length clients))) OutOfLimits (tables q nodes clients blocks spare differences eb es)
+        (in-range q nodes clients blocks spare differences eb es)
+    is = reading-is q nodes clients blocks spare differences eb es
 
     -- what shelf was asked, on its parts
-    Went : ReadWalk → ReadRequest → Type 0
-    Went y x′ = ReadsLent (partIn (readNodes y (length nodes)) nodes) out (partIn (readBlocks y (length blocks)) blocks) x′ r out′
+    Went : ReadWalk → taking.SizedRead → Type 0
+    Went y x′ = AnswersLent (partIn (readNodes y (length nodes)) nodes) (partIn (readClients y (length clients)) clients) x′ r
 
     went-as : (y : ReadWalk) → t ≡ y → Went y (readRequestOf y)
     went-as y w = subst (λ y′. Went y′ (readRequestOf y′)) w (subst (Went t) asked went)
 
-    unread : (a : Answer) → t ≡ readWalk (q .volume) (q .i) 0 false a → out′ ≡ out
-    unread a w =
-        let y = readWalk (q .volume) (q .i) 0 false a in
-        none-read (partIn (readNodes y (length nodes)) nodes) out (partIn (readBlocks y (length blocks)) blocks) r out′ (went-as y w)
-
     Said : Type 0
-    Said = Meets (reading q out nodes clients blocks spare differences) u out′ (tables q out nodes clients blocks spare differences) (out′ ≡ out)
+    Said = answered (answerOf u (shownOf q u blocks spare)) (volumeIn (q .volume) nodes clients blocks spare differences)
+        ≡ reading (q .volume) (q .stripe) (q .i) nodes clients blocks spare differences
 
-    by : (f g : Bool) → readFits q (length nodes) (length out) (length blocks) ≡ f → leb (q .volume .stripes) (q .stripe) ≡ g
+    by : (f g : Bool) → readFits q (length nodes) (length clients) ≡ f → leb (q .volume .stripes) (q .stripe) ≡ g
         → t ≡ cond f (cond g (readWalk (q .volume) (q .i) 0 false (Refused OutOfRange)) (readWalk (q .volume) (q .i) (q .stripe) true Accepted))
         (readWalk (q .volume) (q .i) 0 false (Refused OutOfLimits)) → Said
-    by false g e l w = rw (after, w) (record { said = sym (is ∙ rw e refl); left = unread (Refused OutOfLimits) w })
-    by true true e l w = rw (after, w) (record {
-      said = sym (is ∙ rw (e, le-ltb (q .stripe) (q .volume .stripes) (leb-true (q .volume .stripes) (q .stripe) l)) refl);
-      left = unread (Refused OutOfRange) w;
-    })
-    by true false e l w = rw (after, w) (stripe-read q nodes out blocks e (leb-false (q .volume .stripes) (q .stripe) l) r out′
-        (went-as (readWalk (q .volume) (q .i) (q .stripe) true Accepted) w) clients spare differences)
+    by false g e l w = rw (after, w) (sym (is ∙ rw e refl))
+    by true true e l w = rw (after, w) (sym (is ∙ rw (e, le-ltb (q .stripe) (q .volume .stripes) (leb-true (q .volume .stripes) (q .stripe) l)) refl))
+    by true false e l w = rw (after, w) (stripe-read q nodes clients blocks spare differences eb es e (leb-false (q .volume .stripes) (q .stripe) l) r
+        (went-as (readWalk (q .volume) (q .i) (q .stripe) true Accepted) w))
+
+-- the part beside the answer
+abbrev pub Sized : ReadRequest → ℕ → ℕ → SizedRead → Type 0
+Sized q blocks spare t = t ≡ sizedOf q blocks spare
+
+abbrev pub Parted : SizedRead → Answer → List ℕ → List ℕ → List ℕ → Type 0
+Parted t a blocks spare part = part ≡ shownOf t a blocks spare
+
+pub entered-read : show-entry.Implied node.the-row client.the-row read-request.the-row sized-read.the-row answer.the-row read-request-rec sized-read-rec
+    answer-rec reading-shows Sized AnswersVolume Parted ReadsVolume
+entered-read nodes clients blocks spare part q vx vr x r e =
+    let told : AnswersVolume nodes clients (sizedOf q (length blocks) (length spare)) (r .0)
+    = subst (λ (k : SizedRead). AnswersVolume nodes clients k (r .0)) (x .1 .1) (r .1 .1) in
+    let shows : part ≡ shownOf (sizedOf q (length blocks) (length spare)) (r .0) blocks spare
+    = subst (λ (k : SizedRead). Parted k (r .0) blocks spare part) (x .1 .1) e in
+    record {
+      said = λ d. ap (λ u. answered (answerOf (r .0) u) (volumeIn (q .volume) nodes clients blocks spare d)) shows ∙ told blocks spare d refl refl;
+      shows = shows;
+    }

@@ -33,7 +33,7 @@ pub record Unchanged (x : Machine.Answer) : Type 0 where
 
 refused-by : (a : Answer) (why : Refusal) → answerOf a [] ≡ Machine.Refused why → a ≡ Refused why
 refused-by Accepted why e = let z : _≡_ {A = ℕ} 0 1 = cc in absurd (omega arith)
-refused-by Shown why e = let z : _≡_ {A = ℕ} 0 1 = cc in absurd (omega arith)
+refused-by (Shown source) why e = let z : _≡_ {A = ℕ} 0 1 = cc in absurd (omega arith)
 refused-by Added why e = let z : _≡_ {A = ℕ} 0 1 = cc in absurd (omega arith)
 refused-by Done why e = let z : _≡_ {A = ℕ} 0 1 = cc in absurd (omega arith)
 refused-by Rebuilt why e = let z : _≡_ {A = ℕ} 0 1 = cc in absurd (omega arith)

@@ -9,10 +9,10 @@ use lib.ListN.{drop, length, replicate, take}
 use Rattle.basics.specs.Lists.{listOf}
 use Rattle.calls.specs.declared.Answer.{Answer}
 use Rattle.calls.specs.declared.Answer.the-variants.{Accepted, Refused}
-use Rattle.calls.specs.Answers.{Meets}
+use Rattle.calls.specs.Answers.{Meets, answerOf}
 use Rattle.calls.specs.Calls.{stepOf}
 use Rattle.machine.specs.Calls as Calls
-use Rattle.machine.specs.Stripe.{Outcome, guard}
+use Rattle.machine.specs.Stripe.{Outcome, answered, guard}
 use Rattle.records.specs.declared.ClientRecord.{ClientRecord}
 use Rattle.records.specs.declared.NodeRecord.{NodeRecord}
 use Rattle.records.specs.declared.Refusal.the-variants.{OutOfLimits}
@@ -24,10 +24,12 @@ use Rattle.volume.specs.Volume as Machine
 use Rattle.volume.specs.Volume.{on, volumeStep}
 use Rattle.routing.specs.declared.ReadRequest.{ReadRequest}
 use Rattle.routing.specs.declared.Request.{Request}
+use Rattle.routing.specs.declared.SizedRead.{SizedRead}
 use Rattle.routing.specs.declared.Volume.{Volume}
 use Rattle.routing.specs.declared.VolumeCall.{VolumeCall}
 use Rattle.routing.specs.declared.VolumeCall.the-variants.{Pick, Step}
 use Rattle.routing.specs.Renewals.{freshFits}
+use Rattle.routing.specs.Walks.{shownOf, sizedOf}
 
 -- stripe s has `each` elements of a table, after those of the stripes before it
 abbrev pub ofStripe : {X : Type 0} → ℕ → ℕ → List X → List X
@@ -70,19 +72,31 @@ CallsVolume nodes clients blocks spare differences value q answer nodes′ clien
     Meets (calling q value nodes clients blocks spare differences) answer [] (volumeIn (q .volume) nodes′ clients′ blocks′ spare′ differences′)
     ((nodes′ ≡ nodes) × ((clients′ ≡ clients) × ((blocks′ ≡ blocks) × ((spare′ ≡ spare) × (differences′ ≡ differences)))))
 
--- a read shows its block in a buffer of B bytes, and is lent neither the clients nor the other tables
-abbrev pub reading : ReadRequest → List ℕ → List NodeRecord → List ClientRecord → List ℕ → List ℕ → List ℕ → Outcome Machine.Volume
-reading q out nodes clients blocks spare differences =
-    let v = volumeIn (q .volume) nodes clients blocks spare differences in
+-- a read is lent all tables but the differences
+abbrev pub reading : Volume → ℕ → ℕ → List NodeRecord → List ClientRecord → List ℕ → List ℕ → List ℕ → Outcome Machine.Volume
+reading v stripe i nodes clients blocks spare differences =
+    let tables = volumeIn v nodes clients blocks spare differences in
+    let n = v .z .n in
+    let b = v .z .b in
     guard
-    (not (eqb (length nodes) (q .volume .stripes * q .volume .z .n)
-    && (eqb (length blocks) (q .volume .stripes * (q .volume .z .n * q .volume .z .b)) && eqb (length out) (q .volume .z .b))))
-    OutOfLimits v (volumeStep (q .volume .z) (on (q .stripe) (Calls.Read (q .i))) v)
+    (not (eqb (length nodes) (v .stripes * n) && (eqb (length clients) (v .stripes * v .z .m)
+    && (eqb (length blocks) (v .stripes * (n * b)) && eqb (length spare) (v .stripes * (n * b))))))
+    OutOfLimits tables (volumeStep (v .z) (on stripe (Calls.Read i)) tables)
 
-abbrev pub ReadsVolume : List NodeRecord → List ℕ → List ℕ → ReadRequest → Answer → List ℕ → Type 0
-ReadsVolume nodes out blocks q answer out′ =
-    (clients : List ClientRecord) (spare differences : List ℕ)
-    → Meets (reading q out nodes clients blocks spare differences) answer out′ (volumeIn (q .volume) nodes clients blocks spare differences) (out′ ≡ out)
+-- with blocks and a spare of these lengths, whatever is in them, the answer is the machine's, and the block that it names is the one that the machine shows
+abbrev pub AnswersVolume : List NodeRecord → List ClientRecord → SizedRead → Answer → Type 0
+AnswersVolume nodes clients q answer =
+    (blocks spare differences : List ℕ) → q .blocks ≡ length blocks → q .spare ≡ length spare →
+    answered (answerOf answer (shownOf q answer blocks spare)) (volumeIn (q .volume) nodes clients blocks spare differences)
+    ≡ reading (q .volume) (q .stripe) (q .i) nodes clients blocks spare differences
+
+-- the answer, with the part that is handed back, is the machine's; the part is what the answer names, and nothing where it names nothing
+pub record ReadsVolume (nodes : List NodeRecord) (clients : List ClientRecord) (blocks spare : List ℕ) (q : ReadRequest) (answer : Answer) (part : List ℕ)
+    : Type 0 where
+  pub said : (differences : List ℕ) →
+      answered (answerOf answer part) (volumeIn (q .volume) nodes clients blocks spare differences)
+      ≡ reading (q .volume) (q .stripe) (q .i) nodes clients blocks spare differences
+  pub shows : part ≡ shownOf (sizedOf q (length blocks) (length spare)) answer blocks spare
 
 -- "Fresh: zero blocks and counts, NORM, UNL, empty lists", in every stripe; or 1, with the very tables
 pub record Renewed (v : Volume) (answer : Answer) (nodes : List NodeRecord) (clients : List ClientRecord) (blocks : List ℕ) : Type 0 where

@@ -1,15 +1,17 @@
 // The entry points, and the calls on the part of one stripe. Each is walked by a law.
 ghost use Rattle.volumeshelf.specs.Entry.{Goes, PicksPart, StepsPart};
-ghost use Rattle.volumeshelf.specs.Volumes.{CallsVolume, FreshVolume, ReadsVolume};
+ghost use Rattle.volumeshelf.specs.Volumes.{AnswersVolume, CallsVolume, FreshVolume, ReadsVolume};
 use crate::table::look_clients;
 use crate::table::look_nodes;
 use crate::table::renew_clients;
 use crate::table::renew_nodes;
 use calls::Answer;
+use calls::Reading;
 use records::ClientRecord;
 use records::NodeRecord;
 use routing::ReadRequest;
 use routing::Request;
+use routing::SizedRead;
 use routing::Volume;
 use routing::Walk;
 
@@ -201,21 +203,38 @@ pub fn call(
     each(nodes, clients, blocks, spare, differences, value, begun)
 }
 
-// The block at position i of a stripe, into out.
-pub fn read(nodes: &[NodeRecord], out: &mut [u8], blocks: &[u8], request: ReadRequest) -> Answer
-    ensures { λ r. ⌜ ReadsVolume (now (nodes .entry)) (now (out .entry)) (now (blocks .entry)) request r (now (out .exit)) ⌝ }
+// What a read is answered. Of the blocks and the spare it is told the lengths; the part of them that the answer names is SizedRead::part.
+pub fn read_answer(nodes: &[NodeRecord], clients: &[ClientRecord], request: SizedRead) -> Answer
+    ensures { λ r. ⌜ AnswersVolume (now (nodes .entry)) (now (clients .entry)) request r ⌝ }
 {
     let n0 = nodes.len();
-    let n1 = out.len();
-    let n2 = blocks.len();
-    let walk = request.begin(n0, n1, n2);
+    let n1 = clients.len();
+    let walk = request.begin(n0, n1);
     let a0 = walk.nodes_from(n0);
     let e0 = walk.nodes_to(n0);
-    let a2 = walk.blocks_from(n2);
-    let e2 = walk.blocks_to(n2);
+    let a1 = walk.clients_from(n1);
+    let e1 = walk.clients_to(n1);
     let inner = walk.read();
-    let answer = shelf::read(&nodes[a0..e0], out, &blocks[a2..e2], inner);
+    let answer = shelf::read_answer(&nodes[a0..e0], &clients[a1..e1], inner);
     walk.after(answer)
+}
+
+// The block at position i of a stripe, a part of the blocks or of the spare, and the answer, which tells of which.
+pub fn read<'a>(
+    nodes: &[NodeRecord],
+    clients: &[ClientRecord],
+    blocks: &'a [u8],
+    spare: &'a [u8],
+    request: ReadRequest,
+) -> Reading<'a>
+    ensures { λ r. ⌜ ReadsVolume (now (nodes .entry)) (now (clients .entry)) (now (blocks .entry)) (now (spare .entry)) request (r .answer) (now (r .part)) ⌝ }
+{
+    let live = blocks.len();
+    let kept = spare.len();
+    let sized = request.sized(live, kept);
+    let answer = read_answer(nodes, clients, sized);
+    let part = sized.part(answer, blocks, spare);
+    Reading { part, answer }
 }
 
 // Every record fresh, every block zero.

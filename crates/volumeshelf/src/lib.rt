@@ -12,3 +12,4 @@ mod table; // table.rt: the loops over the tables
 pub use entry::call;
 pub use entry::fresh;
 pub use entry::read;
+pub use entry::read_answer;

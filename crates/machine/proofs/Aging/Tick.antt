@@ -32,6 +32,7 @@ module _ (O : Ops) where
           phase = I .phase;
           rebuild = I .rebuild;
           one = I .one;
+          shown = I .shown;
         };
       }
     where

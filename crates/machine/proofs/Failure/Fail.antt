@@ -1,5 +1,5 @@
 -- The failure of a node keeps the invariant. Assumes nothing.
-use mathlib.Core.Path.{_≡_, refl, sym, _∙_}
+use mathlib.Core.Path.{_≡_, refl, sym, ap, _∙_}
 use mathlib.Core.Logic.{_≢_}
 use mathlib.Core.Bool.{true, false}
 use mathlib.Core.List.{[]}
@@ -13,7 +13,7 @@ use Rattle.records.specs.Client.{Write, Rebuild, NoRebuild, Locking, Picking, W
 use Rattle.basics.proofs.Updates.{upd, upd-same, upd-other, upd-ind}
 use Rattle.basics.proofs.Tests.{each-place, clash}
 use Rattle.machine.proofs.EntryLaws.{listed-nil}
-use Rattle.machine.proofs.Columns.{Ops, Lock, Unl, Columns, setBlocks, setOps, setLocks, setEpochs, setRsets, setEntries}
+use Rattle.machine.proofs.Columns.{Ops, Lock, Unl, L1, isUnl, Columns, setBlocks, setOps, setLocks, setEpochs, setRsets, setEntries}
 use Rattle.machine.proofs.Ledger.{Ledger, noteFail}
 use Rattle.machine.proofs.Invariant.{Ghost, Laws, IsNode, NodeOk, PairOk, HandOk, PhaseOk, RebuildOk, Inv, Good}
 use Rattle.machine.proofs.Frame.{recons-live, norm-live}
@@ -166,7 +166,15 @@ module _ (O : Ops) where
           spare = r .spare;
           count = r .count;
         }
-    rebuild c (Settling y z) r = record { epoch = r .epoch; low = r .low; high = r .high; count = r .count }
+    rebuild c (Settling y z) r =
+        record {
+          epoch = r .epoch;
+          between = λ i p. between-step O h' (r .between i p);
+          low = r .low;
+          high = r .high;
+          spare = r .spare;
+          count = r .count;
+        }
     rebuild c (Unlocking y) r = r
 
     fail-inv : Inv O G' h' s'
@@ -182,6 +190,9 @@ module _ (O : Ops) where
           phase = phase;
           rebuild = λ c. rebuild c (s .phase c) (I .rebuild c);
           one = I .one;
+          shown = λ c j r t. each-place (λ j. IsNode O j → s' .lock j ≡ L1 c → s .spare j ≡ s' .block j) x
+              (λ r l. let q : Unl ≡ L1 c = sym (upd-same (s .lock) x Unl) ∙ l in clash refl (ap isUnl q))
+              (λ j d r l. I .shown c j r t (sym (upd-other (s .lock) x Unl j d) ∙ l) ∙ sym (upd-other (s .block) x v j d)) j r;
         }
 
   pub fail-good : Laws O → (h : Ledger B) (s : Columns B) (j : ℕ) (v : B) → Good O h s → Good O (noteFail h) (failed s j v)

@@ -1,10 +1,10 @@
 -- The calls that change locks and phases alone, by what they do to the columns, keep the invariant: lock, weaken, tighten, unlock, quit.
 -- Assumes nothing.
-use mathlib.Core.Path.{_≡_, refl, ap, _∙_}
+use mathlib.Core.Path.{_≡_, refl, sym, ap, _∙_}
 use mathlib.Core.Logic.{_≢_, _⊎_, inl, inr}
 use mathlib.Core.Bool.{Bool, true, false, cond, _&&_}
 use mathlib.Core.List.{List, [], _∷_, _++_}
-use Prim.Native.Nat.{ℕ, zero, suc, _+_, _≤_, _<_}
+use Prim.Native.Nat.{ℕ, zero, suc, _≤_, _<_}
 use native.Mathlib.Omega.{arith}
 use lib.Dec.{leb, ltb}
 use lib.ListN.{length, getD, length-append}
@@ -18,7 +18,7 @@ use Rattle.basics.proofs.Updates.{upd, upd-ind}
 use Rattle.basics.proofs.Tests.{clash, is-false, and-both, cond-ind}
 use Rattle.machine.proofs.Columns.{Ops, Lock, Unl, Exp, L0, L1, isUnl, isExp, isL0, isLocked, heldBy, Columns, setLocks, setPhases}
 use Rattle.machine.proofs.Ledger.{Ledger}
-use Rattle.machine.proofs.Invariant.{Ghost, IsNode, wasExp, writes, LockingOk, UnlockingOk, PhaseOk, RebuildOk, Inv, Good}
+use Rattle.machine.proofs.Invariant.{Ghost, IsNode, wasExp, writes, unlocks, LockingOk, UnlockingOk, PhaseOk, RebuildOk, Inv, Good}
 use Rattle.machine.proofs.Frame.{of-live, rebuild-quiet}
 use Rattle.machine.proofs.Phases.{held-l1, not-other, unheld, phase-unheld, phase-is}
 
@@ -94,9 +94,10 @@ module _ (O : Ops) where
     abbrev May : ℕ → Lock → Type 0
     May j l = (l ≡ s .lock j) ⊎ Relocked G s c j l
 
-    pub relock : (lock' : ℕ → Lock) (p : Rebuild) → ((j : ℕ) → May j (lock' j)) →
-        ((j : ℕ) → IsNode O j → PhaseOk O G c p j (s .op j) (lock' j) (s .epoch j)) → writes p ≡ false → Good O h (relocked c lock' p s)
-    relock lock' p may mine quiet =
+    relock-on : (lock' : ℕ → Lock) (p : Rebuild) → ((j : ℕ) → May j (lock' j)) →
+        ((j : ℕ) → IsNode O j → PhaseOk O G c p j (s .op j) (lock' j) (s .epoch j)) → writes p ≡ false →
+        ((j : ℕ) → IsNode O j → unlocks p ≡ true → lock' j ≡ L1 c → s .spare j ≡ s .block j) → Good O h (relocked c lock' p s)
+    relock-on lock' p may mine quiet own =
         record {
           ghost = G;
           inv = record {
@@ -111,6 +112,8 @@ module _ (O : Ops) where
                 (λ d ne j b. others d ne j b (may j));
             rebuild = upd-ind (RebuildOk O G h (s .spare)) (s .phase) c p (rebuild-quiet O G h (s .spare) c p quiet) (λ d ne. I .rebuild d);
             one = λ d e a b. I .one d e (was d a) (was e b);
+            shown = λ d j b. upd-ind (λ d q. unlocks q ≡ true → lock' j ≡ L1 d → s .spare j ≡ s .block j) (s .phase) c p (own j b)
+                (λ d ne t l. shown d ne j b t l (may j)) d;
           };
         }
       where
@@ -127,8 +130,18 @@ module _ (O : Ops) where
         others d ne j b (inr R) =
             phase-unheld O G d j (s .phase d) (s .op j) (s .lock j) (lock' j) (s .epoch j) (R .before d ne) (R .after d ne) (I .phase d j b)
 
+        shown : (d : ℕ) → c ≢ d → (j : ℕ) → IsNode O j → unlocks (s .phase d) ≡ true → lock' j ≡ L1 d → May j (lock' j) → s .spare j ≡ s .block j
+        shown d ne j b t l (inl q) = I .shown d j b t (sym q ∙ l)
+        shown d ne j b t l (inr R) = clash (rw l (held-l1 d)) (R .after d ne)
+
         was : (d : ℕ) → writes (upd (s .phase) c p d) ≡ true → writes (s .phase d) ≡ true
         was = upd-ind (λ d q. writes q ≡ true → writes (s .phase d) ≡ true) (s .phase) c p (λ w. clash w quiet) (λ d ne w. w)
+
+    -- to a phase that is not Unlocking
+    pub relock : (lock' : ℕ → Lock) (p : Rebuild) → ((j : ℕ) → May j (lock' j)) →
+        ((j : ℕ) → IsNode O j → PhaseOk O G c p j (s .op j) (lock' j) (s .epoch j)) → writes p ≡ false → unlocks p ≡ false →
+        Good O h (relocked c lock' p s)
+    relock lock' p may mine quiet none = relock-on lock' p may mine quiet (λ j b t l. clash t none)
 
     ---- changes that may be
     -- of one lock; of those that pass a test
@@ -158,7 +171,7 @@ module _ (O : Ops) where
     pub quit-good : Good O h (lost c s)
     quit-good =
         relock (λ j. expired c (s .lock j)) NoRebuild (λ j. if-locked (heldBy c (s .lock j)) j Exp (λ held. released j Exp held refl (λ e i. refl)))
-        (λ j b. cond-ind (λ l. heldBy c l ≡ false) (heldBy c (s .lock j)) Exp (s .lock j) (λ held. refl) (λ f. f)) refl
+        (λ j b. cond-ind (λ l. heldBy c l ≡ false) (heldBy c (s .lock j)) Exp (s .lock j) (λ held. refl) (λ f. f)) refl refl
 
     ---- Lock
     module _ (old : List Lmode) (next : LocksNext (s .phase c) old) where
@@ -172,7 +185,7 @@ module _ (O : Ops) where
       pub give-back-good : Good O h (gaveBack c old s)
       give-back-good =
           relock (λ j. givenBack c old j (s .lock j)) NoRebuild
-          (λ j. if-locked (test j) j (was j) (λ e. back j (and-both (leb j (length old)) (heldBy c (s .lock j)) e .1))) mine refl
+          (λ j. if-locked (test j) j (was j) (λ e. back j (and-both (leb j (length old)) (heldBy c (s .lock j)) e .1))) mine refl refl
         where
           test : ℕ → Bool
           test j = leb j (length old) && heldBy c (s .lock j)
@@ -226,14 +239,15 @@ module _ (O : Ops) where
         lock-good =
             let may = one-lock x (L1 c) (taken x (λ d ne. unheld d (s .lock x) free)) in
             cond-ind (λ p. Good O h (relocked c lock' p s)) (leb n x) (Picking 0) (Locking old')
-            (λ e. relock lock' (Picking 0) may (λ j b q t. locking' j b .tight q) refl) (λ e. relock lock' (Locking old') may locking' refl)
+            (λ e. relock lock' (Picking 0) may (λ j b q t. locking' j b .tight q) refl refl)
+            (λ e. relock lock' (Locking old') may locking' refl refl)
 
     ---- Weaken, Tighten, Unlock
     pub weaken-good : s .phase c ≡ Picking 0 → ((j : ℕ) → IsNode O j → heldBy c (s .lock j) ≡ true) → ((j : ℕ) → isRecons (s .op j) ≡ false) →
         Good O h (weakened c s)
     weaken-good p held no-recons =
         relock weak-lock (Picking (suc k)) (λ j. if-locked (ltb k j && leb j n) j (L0 c) (λ e. redundant j (and-both (ltb k j) (leb j n) e)))
-        (λ j b q f. mine j b f) refl
+        (λ j b q f. mine j b f) refl refl
       where
         weak-lock : ℕ → Lock
         weak-lock j = cond (ltb k j && leb j n) (L0 c) (s .lock j)
@@ -255,8 +269,8 @@ module _ (O : Ops) where
     tighten-good t p held =
         let may = one-lock (suc t) (L1 c) (taken (suc t) (λ d ne. not-other c d (s .lock (suc t)) ne held)) in
         cond-ind (λ q. Good O h (relocked c lock' q s)) (leb n (suc t)) (Picking 0) (Picking (suc (suc t)))
-        (λ e. relock lock' (Picking 0) may (λ j b q f. tight j b (omega (arith, leb-true n (suc t) e, b .high)) q) refl)
-        (λ e. relock lock' (Picking (suc (suc t))) may (λ j b q f. tight j b (less j f) q) refl)
+        (λ e. relock lock' (Picking 0) may (λ j b q f. tight j b (omega (arith, leb-true n (suc t) e, b .high)) q) refl refl)
+        (λ e. relock lock' (Picking (suc (suc t))) may (λ j b q f. tight j b (less j f) q) refl refl)
       where
         lock' : ℕ → Lock
         lock' = upd (s .lock) (suc t) (L1 c)
@@ -274,13 +288,19 @@ module _ (O : Ops) where
     unlock-good x p xn held =
         let may = one-lock x Unl (released x Unl held refl (λ t i. clash t (unlocking x xn .over held))) in
         cond-ind (λ q. Good O h (relocked c lock' q s)) (leb n x) NoRebuild (Unlocking (suc x))
-        (λ e. relock lock' NoRebuild may (last (leb-true n x e)) refl) (λ e. relock lock' (Unlocking (suc x)) may (more (leb-false n x e)) refl)
+        (λ e. relock lock' NoRebuild may (last (leb-true n x e)) refl refl)
+        (λ e. relock-on lock' (Unlocking (suc x)) may (more (leb-false n x e)) refl shown)
       where
         lock' : ℕ → Lock
         lock' = upd (s .lock) x Unl
 
         unlocking : (j : ℕ) → IsNode O j → UnlockingOk O G c x j (s .op j) (s .lock j)
         unlocking = phase-is O I c p
+
+        shown : (j : ℕ) → IsNode O j → unlocks (Unlocking (suc x)) ≡ true → lock' j ≡ L1 c → s .spare j ≡ s .block j
+        shown j b t =
+            upd-ind (λ j l. IsNode O j → l ≡ L1 c → s .spare j ≡ s .block j) (s .lock) x Unl (λ b l. clash refl (ap isUnl l))
+            (λ j ne b l. I .shown c j b (ap unlocks p) l) j b
 
         last : n ≤ x → (j : ℕ) → IsNode O j → heldBy c (lock' j) ≡ false
         last a =

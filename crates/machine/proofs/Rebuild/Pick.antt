@@ -19,7 +19,7 @@ use Rattle.basics.proofs.Tests.{clash, is-false, bool-cases}
 use Rattle.machine.proofs.EntryLaws.{recent-listed}
 use Rattle.machine.proofs.Columns.{Ops, L1, Columns, setSpare, setPhases}
 use Rattle.machine.proofs.Ledger.{Ledger, IsPos, noteCount}
-use Rattle.machine.proofs.Invariant.{Ghost, Laws, IsNode, Spot, at, Between, Live, Unwritten, writes, WritingOk, PhaseOk, WriterOk, Inv, Good}
+use Rattle.machine.proofs.Invariant.{Ghost, Laws, IsNode, Spot, at, Between, Live, Unwritten, writes, unlocks, WritingOk, PhaseOk, WriterOk, Inv, Good}
 use Rattle.machine.proofs.Frame.{of-live, counted, writer-holds, recons-live, norm-live, code-ext, phase-quiet}
 use Rattle.machine.proofs.Phases.{rebuild-only, one-writer}
 use Rattle.machine.proofs.Progress.{between-step, ids-step, finished-step, node-step, hand-step}
@@ -27,6 +27,9 @@ use Rattle.machine.proofs.Progress.{between-step, ids-step, finished-st
 -- P holds of each member
 abbrev pub Each : NodeSet → (ℕ → Type 0) → Type 0
 Each w P = (j : ℕ) → has w j ≡ true → P j
+
+same-l1 : {c d : ℕ} → L1 c ≡ L1 d → c ≡ d
+same-l1 e = cc
 
 module _ (O : Ops) where
   open Ops O using (B, k, n, decode)
@@ -206,9 +209,6 @@ module _ (O : Ops) where
         theirs : writes (s .phase d) ≡ true → s .lock m ≡ L1 d
         theirs t = writer-holds O G d m (s .phase d) (s .op m) (s .lock m) (s .epoch m) (I .phase d m node-m) t (A .live m in-w)
 
-        same-l1 : L1 c ≡ L1 d → c ≡ d
-        same-l1 e = cc
-
     writing : (j : ℕ) → IsNode O j → WritingOk O G' c 1 (has w) j (s .op j) (s .lock j)
     writing j b = record { all-held = λ i. held j b; tight = λ t. held j b; behind = λ q a t. absurd (omega arith); member = λ q i. A .at-cut j q }
 
@@ -242,5 +242,8 @@ module _ (O : Ops) where
                 (λ d ne j b. phase-quiet O G G' refl d j (s .phase d) (s .op j) (s .lock j) (s .epoch j) (quiet d ne) (I .phase d j b));
             rebuild = rebuild-only O (s .phase) c (Writing 1 w e) quiet G' h' (decode w (s .block)) writer;
             one = one-writer O (s .phase) c (Writing 1 w e) quiet;
+            -- nobody else holds a node
+            shown = λ d j b. upd-ind (λ d q. unlocks q ≡ true → s .lock j ≡ L1 d → decode w (s .block) j ≡ s .block j) (s .phase) c (Writing 1 w e)
+                (λ t. clash t refl) (λ d ne t l. absurd (ne (same-l1 (sym (held j b) ∙ l)))) d;
           };
         }

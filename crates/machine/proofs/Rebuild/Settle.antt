@@ -21,7 +21,7 @@ use Rattle.basics.proofs.Tests.{each-place, clash, bool-cases}
 use Rattle.machine.proofs.EntryLaws.{listed-nil}
 use Rattle.machine.proofs.Columns.{Ops, L1, heldBy, Columns, setOps, setEpochs, setRsets, setEntries, setPhases}
 use Rattle.machine.proofs.Ledger.{Ledger, IsPos, noteCount, noteFinish, noteSettle, zeroth, isLast, Rebuilt}
-use Rattle.machine.proofs.Invariant.{Ghost, Laws, code, IsNode, at, OnCut, NodeOk, PairOk, writes, SettlingOk, SettlerOk, Inv, Good}
+use Rattle.machine.proofs.Invariant.{Ghost, Laws, code, IsNode, at, OnCut, NodeOk, PairOk, writes, unlocks, SettlingOk, SettlerOk, Inv, Good}
 use Rattle.machine.proofs.Frame.{of-live, recons-live, norm-live, norm-recons, code-data, code-red, code-ext}
 use Rattle.machine.proofs.Sets.{no-nodes}
 use Rattle.machine.proofs.Phases.{phase-is, rebuild-is, others-quiet, writer-lock, phase-after, rebuild-only, one-writer}
@@ -60,7 +60,7 @@ module _ (O : Ops) where
     abbrev I : Inv O G h s
     I = g .inv
 
-    settler : SettlerOk O G (h .settles c) x (e .0)
+    settler : SettlerOk O G h (s .spare) (h .settles c) x (e .0)
     settler = rebuild-is O I c p
 
     settling : (j : ℕ) → IsNode O j → SettlingOk O G c x (e .0) j (s .op j) (s .lock j) (s .epoch j)
@@ -233,8 +233,17 @@ module _ (O : Ops) where
           weak = λ j l r i. rw (l1 l i);
           phase = phase-after O I c p refl G' (s' .op) (s' .epoch) (Settling (suc x) e) live' l1 settling';
           rebuild = rebuild-only O (s .phase) c (Settling (suc x) e) quiet G' h' (s .spare)
-              (record { epoch = settler .epoch; low = omega arith; high = more; count = λ y q. upd-same (h .settles) c (some x) ∙ ap some (suc-same q) });
+              (record {
+                epoch = settler .epoch;
+                between = λ i q. between-step O h' (settler .between i q);
+                low = omega arith;
+                high = more;
+                spare = settler .spare;
+                count = λ y q. upd-same (h .settles) c (some x) ∙ ap some (suc-same q);
+              });
           one = one-writer O (s .phase) c (Settling (suc x) e) quiet;
+          shown = λ d j b. upd-ind (λ d q. unlocks q ≡ true → s .lock j ≡ L1 d → s .spare j ≡ s .block j) (s .phase) c (Settling (suc x) e)
+              (λ t. clash t refl) (λ d ne t l. I .shown d j b t l) d;
         }
 
     ---- the last one
@@ -319,6 +328,8 @@ module _ (O : Ops) where
                 });
             rebuild = rebuild-only O (s .phase) c (Unlocking 1) quiet Gf hf (s .spare) tt;
             one = one-writer O (s .phase) c (Unlocking 1) quiet;
+            shown = λ d j b. upd-ind (λ d q. unlocks q ≡ true → s .lock j ≡ L1 d → s .spare j ≡ s .block j) (s .phase) c (Unlocking 1)
+                (λ t l. settler .spare j (b .low) (b .high) ∙ sym (block j b)) (λ d ne t l. I .shown d j b t l) d;
           }
 
     ---- which of the two it is

@@ -17,7 +17,7 @@ use Rattle.basics.proofs.Updates.{upd, upd-same, upd-other, upd-ind}
 use Rattle.basics.proofs.Tests.{each-place, clash, cond-ind}
 use Rattle.machine.proofs.Columns.{Ops, L1, heldBy, Columns, setBlocks, setOps, setEpochs, setRsets, setPhases}
 use Rattle.machine.proofs.Ledger.{Ledger}
-use Rattle.machine.proofs.Invariant.{Ghost, Laws, code, IsNode, Spot, at, Between, NodeOk, PairOk, HandOk, writes, WritingOk, PhaseOk, WriterOk, RebuildOk, Inv, Good}
+use Rattle.machine.proofs.Invariant.{Ghost, Laws, code, IsNode, Spot, at, Between, NodeOk, PairOk, HandOk, writes, unlocks, WritingOk, PhaseOk, WriterOk, RebuildOk, Inv, Good}
 use Rattle.machine.proofs.Frame.{of-live, norm-live, list-frame}
 use Rattle.machine.proofs.Phases.{phase-is, rebuild-is, others-quiet, writer-lock, phase-after, rebuild-only, one-writer}
 use Rattle.machine.proofs.Progress.{ids-step, finished-step, node-step, hand-step}
@@ -168,8 +168,10 @@ module _ (O : Ops) where
         cond-ind (λ q. RebuildOk O G' h (s .spare) c q) (leb n x) (Settling 1 e) (Writing (suc x) w e)
         (λ t. record {
           epoch = writer .epoch;
+          between = writer .between;
           low = omega arith;
           high = omega (arith, writer .low, writer .high);
+          spare = writer .spare;
           count = λ y q. writer .count ∙ ap some (first y q);
         })
         (λ t. record {
@@ -183,6 +185,13 @@ module _ (O : Ops) where
       where
         first : (y : ℕ) → 1 ≡ suc y → 0 ≡ y
         first y q = omega arith
+
+    -- who unlocks is another
+    shown : (d j : ℕ) → IsNode O j → unlocks (upd (s .phase) c (writePhase x w e) d) ≡ true → s .lock j ≡ L1 d → s .spare j ≡ s .block j
+    shown d j b =
+        upd-ind (λ d q. unlocks q ≡ true → s .lock j ≡ L1 d → s .spare j ≡ s .block j) (s .phase) c (writePhase x w e)
+        (λ t. clash t (cond-ind (λ q. unlocks q ≡ false) (leb n x) (Settling 1 e) (Writing (suc x) w e) (λ t. refl) (λ t. refl)))
+        (λ d ne t l. I .shown d j b t l) d
 
     pub write-good : Good O h (written c x w e s)
     write-good =
@@ -199,6 +208,8 @@ module _ (O : Ops) where
             phase = phase-after O I c p refl G' op' (upd (s .epoch) x (e .0)) (writePhase x w e) live' l1 mine;
             rebuild = rebuild-only O (s .phase) c (writePhase x w e) quiet G' h (s .spare) rebuild;
             one = one-writer O (s .phase) c (writePhase x w e) quiet;
+            shown = λ d j b t l. upd-ind (λ j y. IsNode O j → s .lock j ≡ L1 d → s .spare j ≡ y) (s .block) x (s .spare x) (λ b l. refl)
+                (λ j ne b l. shown d j b t l) j b l;
           };
         }
       where

@@ -42,6 +42,7 @@ module _ (O : Ops) where
         phase = I .phase;
         rebuild = I .rebuild;
         one = I .one;
+        shown = I .shown;
       }
 
   pub drop-good : (h : Ledger B) (s : Columns B) (c : ℕ) → Good O h s → Good O h (withHand s c none)

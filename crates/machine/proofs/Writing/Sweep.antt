@@ -76,6 +76,7 @@ module _ (O : Ops) where
           phase = I .phase;
           rebuild = I .rebuild;
           one = I .one;
+          shown = I .shown;
         };
       }
 
@@ -150,5 +151,6 @@ module _ (O : Ops) where
           phase = I .phase;
           rebuild = I .rebuild;
           one = I .one;
+          shown = I .shown;
         };
       }

@@ -1,6 +1,5 @@
 -- `volumerun::main` is safe and ends: what fits is no larger than the tables. Assumes nothing.
 use mathlib.Core.Path.{sym, _∙_}
-use borrow.Author.Tests.{not-false}
 use Rattle.volumerun.proofs.Memory.{fits-tables}
 use borrow.Author.Needs.{needs}
 use Rattle.volumerun.proofs.main.Statement.{statement}
@@ -8,8 +7,7 @@ use Rattle.volumerun.proofs.main.Tie as tie
 
 play-lines-requires : tie.Need-play-lines-requires
 play-lines-requires c κs =
-    let at-within = c .before .before .before .before in
-    fits-tables _ (sym (at-within .before .within .ensures) ∙ not-false _ (at-within .if1 .left)) (sym (c .before .before .before .fits2 .ensures) ∙ c .before .before .if2 .taken)
+    fits-tables _ (sym (c .before .before .before .fits2 .ensures) ∙ c .before .before .if2 .taken)
 
 pub main-spec : {M : Type 1} → statement M
 main-spec =

@@ -27,23 +27,23 @@ handed c =
     }
 
 returns : tie.Need-returns
-returns c shown =
+returns c =
     let at-step = c .before .before .before .before .before .before in
     let at-see = at-step .before .before .before in
     let a = c .before .before .before .before .before .before .before .before .before .before .before .before .before .before .before .before .before .before .before .before .args in
     let met = at-step .step .ensures (nodesOf (a .z .n) (a .stripe .nodes)) (clientsOf (a .z .m) (a .stripe .clients)) (handed at-see) in
-    steps-same (a .z) (a .value .now) shown (a .stripe) (a .blocks .now) (a .spare .now) (a .differences .now) (at-step .step .result .answer) _
+    steps-same (a .z) (a .value .now) (a .stripe) (a .blocks .now) (a .spare .now) (a .differences .now) (at-step .step .result .answer) _
     (sym (c .before .is-unchanged .ensures) ∙ c .if1 .taken) (a .call) (met .said)
 
 returns-2 : tie.Need-returns-2
-returns-2 c shown =
+returns-2 c =
     let at-step = c .before .before .before .before .before .before .before in
     let at-see = at-step .before .before .before in
     let a = c .before .before .before .before .before .before .before .before .before .before .before .before .before .before .before .before .before .before .before .before .before .args in
     let r = at-step .step .result in
     let met = at-step .step .ensures (nodesOf (a .z .n) (a .stripe .nodes)) (clientsOf (a .z .m) (a .stripe .clients)) (handed at-see) in
     let nodes = c .put .ensures .0 ∙ ap (λ j. applied (r .change) (setAt (nodesOf (a .z .n) (a .stripe .nodes)) j (nodeOf (r .node)))) (at-see .before .before .target .ensures) in
-    steps-put (a .z) (a .value .now) shown (a .stripe) (a .blocks .now) (a .spare .now) (a .differences .now) (r .answer) _
+    steps-put (a .z) (a .value .now) (a .stripe) (a .blocks .now) (a .spare .now) (a .differences .now) (r .answer) _
     (sym (c .before .before .is-unchanged .ensures) ∙ c .before .if1 .left) (c .put .result) nodes (c .put .ensures .1) (a .call) (met .said)
 
 pub play-step-spec : {M : Type 1} → statement M

@@ -10,7 +10,7 @@ use Rattle.parts.proofs.Playing.{meets}
 use Rattle.records.proofs.ClientRecord as client
 use Rattle.records.proofs.NodeRecord as node
 use Rattle.shelf.proofs.Types.{node-rec, client-rec, answer-rec}
-use Rattle.volumeplay.specs.Asking.{CallsPart, ReadsPart}
+use Rattle.volumeplay.specs.Asking.{AnswersPart, CallsPart}
 use Rattle.volumeplay.specs.Stripes.{ClientsTook, NodesTook}
 use Rattle.volumeplay.proofs.Types.{clients-taken-rec, nodes-taken-rec, player-rec, turn-rec}
 use Rattle.volumeplay.proofs.Player as player
@@ -51,9 +51,9 @@ play-spec 𝓤 H 𝓜 𝓖 𝓡 =
     player-rec turn-rec answer-rec answer-rec nodes-taken-rec clients-taken-rec
     goes-on.name next.name call.name read.name see.name take.name print.name (λ x. x .left) (λ x. x .player .left)
     (λ x _ _ r _ _. r .player .left ≡ x .left - 1)
-    CallsPart ReadsPart NodesTook ClientsTook
-    (λ q _ _ _ _ _ _ _ _ _ r _. r .left ≤ q .player .left)
-    (λ _ _ _ _ _ _ said. said) (λ _ _ _ _ _ _ _ _ _ _ _ _ said. said)
+    CallsPart AnswersPart NodesTook ClientsTook
+    (λ q _ _ _ _ _ _ _ _ r _. r .left ≤ q .player .left)
+    (λ _ _ _ _ _ _ said. said) (λ _ _ _ _ _ _ _ _ _ _ _ said. said)
     𝓤 H (𝓖 .A) (givenOf 𝓤 H 𝓜 𝓖) (tablesOf 𝓤 H 𝓜 (tables 𝓤 H 𝓜 𝓡 code.env))
     (cited 𝓤 H _ 𝓜 𝓡 code.env goes-on.name goes-on.routine code.calls-volumeplay·Player·goes-on (goes-on-thm.met 𝓤 H 𝓜 𝓖 𝓡))
     (cited 𝓤 H _ 𝓜 𝓡 code.env next.name next.routine code.calls-volumeplay·Player·next (next-thm.met 𝓤 H 𝓜 𝓖 𝓡))

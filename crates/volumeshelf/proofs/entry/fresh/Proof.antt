@@ -5,7 +5,7 @@ use denote.Triple.Spec.{tripleOf}
 use denote.Triple.Table.{entered, cited}
 use mathlib.Core.Path.{_≡_}
 use Rattle.calls.proofs.Answer as answer
-use Rattle.parts.proofs.Asks.{Ask4}
+use Rattle.lent.proofs.Side.{Ask4}
 use Rattle.parts.proofs.Renew.{Change, Close, meets}
 use Rattle.records.proofs.ClientRecord as client
 use Rattle.records.proofs.NodeRecord as node

@@ -10,4 +10,8 @@ with-spec =
     (λ c κs. search needs)
     (λ c κs. search needs)
     (λ c κs. search needs)
-    (λ c. let held = c .before .before .before in rw (held .before .before .is-within .ensures, held .held-by .ensures, c .before .is-recons .ensures)))
+    (λ c κs. search needs)
+    (λ c.
+    let tight = c .before .before .before in
+    let held = tight .before .before in
+    rw (held .before .before .is-within .ensures, held .held-by .ensures, tight .held-at-l1 .ensures, c .before .is-recons .ensures)))
