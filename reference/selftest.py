@@ -577,7 +577,7 @@ def test_answers_occur():
 
 
 def test_wrong_machines():
-    """guarantee.py notices each wrong machine that breaks demand 3, takenout.py each wrong volume."""
+    """guarantee.py notices each wrong machine that breaks demand 3 or the promise on reads, takenout.py each wrong volume."""
     mutants.check_own_lists()
 
 

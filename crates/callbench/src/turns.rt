@@ -8,8 +8,8 @@ use calls::Answer;
 use calls::StepCall;
 use records::ClientCall;
 use records::NodeCall;
-use routing::Volume;
 use routing::VolumeCall;
+use tables::Volume;
 use taking::PickRequest;
 
 impl Run {

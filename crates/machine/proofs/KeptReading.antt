@@ -4,6 +4,7 @@ use mathlib.Core.Path.{_≡_, refl}
 use mathlib.Core.Bool.{true, false}
 use mathlib.Core.List.{List}
 use Prim.Native.Nat.{ℕ, _*_}
+use native.Mathlib.Omega.{arith}
 use lib.Dec.{eqb, leb}
 use lib.ListN.{length}
 use borrow.Author.Tests.{leb-true}
@@ -25,7 +26,7 @@ use Rattle.machine.specs.History.{Other, isDone}
 use Rattle.machine.specs.Guarantee.{Shows}
 use Rattle.machine.proofs.Columns.{L1, Columns}
 use Rattle.machine.proofs.Ledger.{Ledger, IsPos, IsPart, note}
-use Rattle.machine.proofs.Invariant.{Laws, IsNode, Good}
+use Rattle.machine.proofs.Invariant.{Laws, Good}
 use Rattle.machine.proofs.Frame.{norm-live}
 use Rattle.machine.proofs.Bytes.{Block, blockOf, ops}
 use Rattle.machine.proofs.View.{columns, l1-is}
@@ -71,10 +72,10 @@ module _ (z : Sizes) (L : Laws (ops z)) (h : Ledger Block) (s : Stripe) (g : Goo
   position : isPosition z i ≡ true → IsPos (ops z) i
   position e = let (low, high) = and-both (leb 1 i) (leb i (z .k)) e in record { low = leb-true 1 i low; high = leb-true i (z .k) high }
 
-  -- who rebuilds holds every node at L1
-  all-held : (c : ℕ) → everyOf (heldAtL1 c) (s .nodes) ≡ true → (j : ℕ) → IsNode (ops z) j → C .lock j ≡ L1 c
-  all-held c held j b =
-      l1-is c (nodeAt (s .nodes) j) (every-at failedNode (heldAtL1 c) (s .nodes) held j (b .low) (rw (f .nodes) (b .high)))
+  -- who rebuilds holds node i at L1
+  held-at : (c : ℕ) → everyOf (heldAtL1 c) (s .nodes) ≡ true → IsPos (ops z) i → C .lock i ≡ L1 c
+  held-at c held p =
+      l1-is c (nodeAt (s .nodes) i) (every-at failedNode (heldAtL1 c) (s .nodes) held i (p .low) (rw (f .nodes) (omega (arith, p .high, L .k-n))))
 
   pub read-shown : eqb (number (step z (Calls.read i) s .answer)) 0 ≡ true → Shows (PartShown z h i) (step z (Calls.read i) s .answer)
   unfolding step
@@ -87,4 +88,4 @@ module _ (z : Sizes) (L : Laws (ops z)) (h : Ledger Block) (s : Stripe) (g : Goo
       shows Live (s .blocks) (f .blocks) (f .blocks-bytes) (position e) (live-part (ops z) h C g i (position e) (norm-live (node .opmode) norm)))
       (λ e rebuilds t.
       let (picked, held) = and-both (hasPicked (C .phase c)) (everyOf (heldAtL1 c) (s .nodes)) rebuilds in
-      shows Spare (s .spare) (f .spare) (f .spare-bytes) (position e) (spare-part (ops z) L h C g c i (position e) picked (all-held c held)))
+      shows Spare (s .spare) (f .spare) (f .spare-bytes) (position e) (spare-part (ops z) L h C g c i (position e) picked (held-at c held (position e))))

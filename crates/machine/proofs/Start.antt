@@ -127,9 +127,9 @@ module _ (O : Ops) where
       let own = v .between i (record { pos = p; sees = inl refl }) in
       (g .ghost .inBlock i i, (own .most, v .block ∙ code-data O i (at O h (g .ghost .inBlock i)) (p .high), own .least))
 
-  -- so is the spare's, while a client whose pick was accepted holds all nodes at L1
+  -- so is the spare's, while a client whose pick was accepted holds that node at L1
   pub spare-part : Laws O → (h : Ledger B) (s : Columns B) → Good O h s → (c i : ℕ) → IsPos O i → hasPicked (s .phase c) ≡ true →
-      ((j : ℕ) → IsNode O j → s .lock j ≡ L1 c) → IsPart O h i (s .spare i)
+      s .lock i ≡ L1 c → IsPart O h i (s .spare i)
   spare-part L h s g c i p picks held = go (s .phase c) refl picks
     where
       b : IsNode O i
@@ -145,8 +145,8 @@ module _ (O : Ops) where
       go (Writing x w e) is t = let r = rebuild-is O (g .inv) c is in at-cut (r .between i p) (r .spare i (b .low) (b .high))
       go (Settling x e) is t = let r = rebuild-is O (g .inv) c is in at-cut (r .between i p) (r .spare i (b .low) (b .high))
       go (Unlocking x) is t =
-          let norm = phase-is O (g .inv) c is i b .norm (rw (held i b) (held-l1 c)) in
-          subst (IsPart O h i) (sym (g .inv .shown c i b (ap unlocks is) (held i b))) (live-part h s g i p (norm-live (s .op i) norm))
+          let norm = phase-is O (g .inv) c is i b .norm (rw held (held-l1 c)) in
+          subst (IsPart O h i) (sym (g .inv .shown c i b (ap unlocks is) held)) (live-part h s g i p (norm-live (s .op i) norm))
 
   ---- with every write done and no node failed each block is that of the last values
   pub steady : Laws O → (h : Ledger B) (s : Columns B) → Good O h s → Steady O h (s .block)

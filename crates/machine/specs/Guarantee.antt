@@ -1,5 +1,5 @@
--- Demand 3, "the guarantee on rebuilds": one claim about the whole list of calls. Quotes are demand 3's where marked, else document 01's.
--- Assumes nothing.
+-- Demand 3, "the guarantee on rebuilds": one claim about the whole list of calls. Quotes are demand 3's and C-15's where
+-- marked, else document 01's. Assumes nothing.
 use mathlib.Core.Bool.{true, false}
 use mathlib.Core.List.{List, [], _∷_}
 use mathlib.Core.Logic.{_⊎_}

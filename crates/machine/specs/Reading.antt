@@ -51,12 +51,13 @@ read z i s =
 
 -- ---- what C-15 says of document 01's reads, proved in proofs/Reading
 
--- "Reads that 01 accepts keep their answers; all others are refused as before": the read is document 01's, but where that is answered 4 and such a
--- client is there
+-- such a client: one that rebuilds, past its pick, and holds all n nodes at L1
 pub record Rebuilding (z : Sizes) (s : Stripe) (c : ℕ) : Type 0 where
   pub client : isClient z c ≡ true
   pub holds : rebuilds c s ≡ true
 
+-- "Reads that 01 accepts keep their answers; all others are refused as before": the read is document 01's, but where that is answered 4 and such a
+-- client is there
 abbrev pub ReadsAsBefore : Type 0
 ReadsAsBefore = (z : Sizes) (i : ℕ) (s : Stripe) → (read z i s ≡ read01 z i s) ⊎ ((number (read01 z i s .answer) ≡ 4) × ((c : ℕ) × Rebuilding z s c))
 

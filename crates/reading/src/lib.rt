@@ -8,7 +8,7 @@ ghost use Rattle.calls.specs.Answers.{readAs};
 ghost use Rattle.machine.specs.Reading.{read};
 ghost use Rattle.machine.specs.Stripe.{Stripe};
 ghost use Rattle.machine.specs.Writing.{wrongMode};
-ghost use Rattle.records.specs.Client.{clientWithin};
+ghost use Rattle.records.specs.Client.{clientWithin, hasPicked};
 ghost use Rattle.records.specs.Node.{nodeWithin};
 ghost use Rattle.records.specs.Sizes.{sizesWithin};
 ghost use Rattle.records.specs.View.{clientOf, nodeOf};
@@ -17,10 +17,26 @@ use calls::Answer;
 use limits::tables::are_blocks;
 use records::ClientRecord;
 use records::NodeRecord;
+use records::Phase;
 use records::Refusal;
 use records::Sizes;
 use records::Source;
 use stripe::Seen;
+
+// Whether the client's pick was accepted in the rebuild that it now has.
+pub fn has_picked(client: ClientRecord) -> bool
+    ensures { λ r. ⌜ r ≡ hasPicked (clientOf client .rebuild) ⌝ }
+{
+    let phase = client.phase;
+    match phase {
+        Phase::NoRebuild => false,
+        Phase::Locking(_, _) => false,
+        Phase::Picking(_) => false,
+        Phase::Writing(_, _, _) => true,
+        Phase::Settling(_, _) => true,
+        Phase::Unlocking(_) => true, // till it ends
+    }
+}
 
 // Whether the sizes, the record of node i and the length of the blocks are within the limits.
 fn is_within(z: Sizes, node: NodeRecord, blocks: usize) -> bool
@@ -67,7 +83,7 @@ pub fn read(
     if node.is_free() {
         return Answer::Shown(Source::Live);
     }
-    if !client.has_picked() {
+    if !has_picked(client) {
         return wrong_mode(node);
     }
     if !seen.tight {

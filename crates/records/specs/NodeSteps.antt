@@ -40,10 +40,6 @@ needing met x rest = refusing (not met) (WrongMode (x .opmode) (x .lmode)) rest
 abbrev pub enterAnswer : Node → NodeAnswer
 enterAnswer x = refusing (leb entryLimit (length (x .entries))) Full Accepted
 
--- "Read i: needs node i NORM and UNL"
-abbrev pub readAnswer : Node → NodeAnswer
-readAnswer x = needing (isFree x) x Accepted
-
 -- "Swap c, i, value: needs node i NORM and UNL"
 abbrev pub swapAnswer : Node → NodeAnswer
 swapAnswer x = needing (isFree x) x (enterAnswer x)

@@ -11,7 +11,7 @@ ghost use Rattle.entries.specs.Entries.{writeLimit, finishedLimit};
 ghost use Rattle.entries.specs.View.{idsOf};
 ghost use Rattle.records.specs.Sizes.{dataLimit, nodeLimit, sizesWithin};
 ghost use Rattle.records.specs.Node.{isL0, isL1};
-ghost use Rattle.records.specs.Client.{NoRebuild, Picking, Writing, freshClient, stopped, withHand, withRebuild, began, finishedWrite, sweptOn, hasWrite, hasRebuild, hasPicked, remembered, nextNode, lockedRebuild, nextRebuild, handWithin, rebuildWithin, clientWithin};
+ghost use Rattle.records.specs.Client.{NoRebuild, Picking, Writing, freshClient, stopped, withHand, withRebuild, began, finishedWrite, sweptOn, hasWrite, hasRebuild, remembered, nextNode, lockedRebuild, nextRebuild, handWithin, rebuildWithin, clientWithin};
 ghost use Rattle.records.specs.ClientSteps.{listsWithin, idleClient};
 ghost use Rattle.records.specs.View.{writeOf, handOf, oldLmodes, rebuildOf, clientOf};
 use crate::ClientRecord;
@@ -245,21 +245,6 @@ impl ClientRecord {
             Phase::Writing(_, _, _) => true,
             Phase::Settling(_, _) => true,
             Phase::Unlocking(_) => true,
-        }
-    }
-
-    // Whether its pick was accepted in the rebuild that it now has.
-    pub fn has_picked(self) -> bool
-        ensures { λ r. ⌜ r ≡ hasPicked (clientOf self .rebuild) ⌝ }
-    {
-        let phase = self.phase;
-        match phase {
-            Phase::NoRebuild => false,
-            Phase::Locking(_, _) => false,
-            Phase::Picking(_) => false,
-            Phase::Writing(_, _, _) => true,
-            Phase::Settling(_, _) => true,
-            Phase::Unlocking(_) => true, // till it ends
         }
     }
 

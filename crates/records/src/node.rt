@@ -6,7 +6,7 @@ ghost use Rattle.code.specs.View.{nodeSetOf};
 ghost use Rattle.entries.specs.Entries.{entryLimit, finishedLimit, discard, markOld};
 ghost use Rattle.entries.specs.View.{idsOf};
 ghost use Rattle.records.specs.Node.{epochLimit, freshNode, failedNode, isNorm, isRecons, isInit, isUnl, isExp, isL0, isL1, isHolder, holderNumber, holderOf, isFree, takesAdd, heldBy, heldAtL1, withEntries, withLmode, entered, lockedBy, weakenedBy, unlocked, expiredFor, givenBack, written, settled, ticked, isDue, holderWithin, nodeWithin};
-ghost use Rattle.records.specs.NodeSteps.{MeetsAtNode, emptyNode, enterAnswer, readAnswer, swapAnswer, afterPrevious, addAnswer, sweepAnswer, lockAnswer, heldAnswer, weakenAnswer, tickAnswer, checkAnswer};
+ghost use Rattle.records.specs.NodeSteps.{MeetsAtNode, emptyNode, enterAnswer, swapAnswer, afterPrevious, addAnswer, sweepAnswer, lockAnswer, heldAnswer, weakenAnswer, tickAnswer, checkAnswer};
 ghost use Rattle.records.specs.View.{nodeOf};
 use crate::CheckAnswer;
 use crate::CheckStep;
@@ -277,16 +277,6 @@ impl NodeRecord {
         node.accepted()
     }
 
-    pub fn read(self) -> NodeStep
-        ensures { λ r. ⌜ MeetsAtNode (readAnswer (nodeOf self)) (nodeOf self) self r ⌝ }
-    {
-        if self.is_free() {
-            self.accepted()
-        } else {
-            self.wrong_mode()
-        }
-    }
-
     pub fn swap(self, id: WriteId) -> NodeStep
         ensures { λ r. ⌜ MeetsAtNode (swapAnswer (nodeOf self)) (entered id (nodeOf self)) self r ⌝ }
     {
@@ -505,7 +495,7 @@ impl NodeRecord {
         self.with_lmode(Lmode::L1, Holder::Client(c))
     }
 
-    pub fn weakened_by(self, c: u8) -> Self
+    fn weakened_by(self, c: u8) -> Self
         ensures { λ r. ⌜ nodeOf r ≡ weakenedBy c (nodeOf self) ⌝ }
     {
         self.with_lmode(Lmode::L0, Holder::Client(c))
@@ -517,7 +507,7 @@ impl NodeRecord {
         self.with_lmode(Lmode::Unl, Holder::Nobody)
     }
 
-    pub fn given_back(self, c: u8, old: Lmode) -> Self
+    fn given_back(self, c: u8, old: Lmode) -> Self
         ensures { λ r. ⌜ nodeOf r ≡ givenBack c old (nodeOf self) ⌝ }
     {
         if self.held_by(c) {
@@ -527,7 +517,7 @@ impl NodeRecord {
         }
     }
 
-    pub fn expired_for(self, c: u8) -> Self
+    fn expired_for(self, c: u8) -> Self
         ensures { λ r. ⌜ nodeOf r ≡ expiredFor c (nodeOf self) ⌝ }
     {
         self.given_back(c, Lmode::Exp)

@@ -29,11 +29,11 @@ use Rattle.routing.specs.declared.ReadRequest as read
 use Rattle.routing.specs.declared.SizedRead as sized
 use Rattle.routing.specs.declared.ReadWalk.{ReadWalk}
 use Rattle.routing.specs.declared.Request as request
-use Rattle.routing.specs.declared.Volume.{Volume}
+use Rattle.tables.specs.declared.Volume.{Volume}
 use Rattle.routing.specs.declared.VolumeCall.{VolumeCall}
 use Rattle.routing.specs.declared.VolumeCall.the-variants.{Pick, Step}
 use Rattle.routing.specs.declared.Walk.{Walk}
-use Rattle.routing.specs.Parts.{lengthsOf, partFrom, partOf, partTo, tableBlocks, volumeWithin}
+use Rattle.tables.specs.Parts.{lengthsOf, partFrom, partOf, partTo, tableBlocks, volumeWithin}
 
 -- ---- the calls
 

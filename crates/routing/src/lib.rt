@@ -1,23 +1,11 @@
 // A volume's call on its way to its stripes: the volume's own tests, the stripes that the call goes to, what it is in each of them, and the part of each
 // table that is the stripe's own. All by value; the tables are in crate volumeshelf.
 mod reads; // reads.rt: a read on its way to its stripe
-mod volumes; // volumes.rt: a volume's tables, and the parts of its stripes
 mod walks; // walks.rt: a call on its way over the stripes
 
 use calls::Answer;
 use calls::StepCall;
-use records::Sizes;
-pub use volumes::part_from;
-pub use volumes::part_to;
-pub use volumes::stripe_part;
-pub use volumes::table_blocks;
-pub use volumes::table_differences;
-
-// So many stripes of these sizes.
-pub struct Volume {
-    pub stripes: usize,
-    pub z: Sizes,
-}
+use tables::Volume;
 
 // Every call but read. Of the calls that step a record a stop and a failure are of every stripe, and the number in a failure is that of a card.
 pub enum VolumeCall {
@@ -48,15 +36,6 @@ pub struct SizedRead {
     pub spare: usize,
 }
 
-// The lengths of a volume's tables, and of the bytes that are given with a card's failure.
-pub struct Lengths {
-    pub nodes: usize,
-    pub clients: usize,
-    pub blocks: usize,
-    pub differences: usize,
-    pub value: usize,
-}
-
 // A call on its way: it goes to the stripes from `at` on and before `end`. The answer is the last one's; before any, Accepted; and a refusal of the
 // volume's own, which goes to none.
 pub struct Walk {
@@ -74,9 +53,4 @@ pub struct ReadWalk {
     pub at: usize,
     pub goes: bool,
     pub answer: Answer,
-}
-
-// Whether the tables that are to be made fresh have their lengths.
-pub struct Renewal {
-    pub fits: bool,
 }

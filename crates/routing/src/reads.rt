@@ -1,18 +1,18 @@
 // A read on its way to its stripe, and the part that its answer names.
 ghost use mathlib.Core.Path.{_≡_};
-ghost use Rattle.routing.specs.Parts.{partFrom, partTo};
+ghost use Rattle.tables.specs.Parts.{partFrom, partTo};
 ghost use Rattle.routing.specs.Walks.{readAfterOf, readBegunOf, readFits, readRequestOf, shownOf, sizedOf};
 use crate::ReadRequest;
 use crate::ReadWalk;
 use crate::SizedRead;
-use crate::volumes::part_from;
-use crate::volumes::part_to;
-use crate::volumes::stripe_part;
-use crate::volumes::table_blocks;
 use calls::Answer;
 use calls::shown_part;
 use records::Refusal;
 use records::Sizes;
+use tables::part_from;
+use tables::part_to;
+use tables::stripe_part;
+use tables::table_blocks;
 
 impl ReadRequest {
     pub fn sized(self, blocks: usize, spare: usize) -> SizedRead

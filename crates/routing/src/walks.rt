@@ -1,6 +1,6 @@
 // A call on its way over the stripes.
 ghost use mathlib.Core.Path.{_≡_};
-ghost use Rattle.routing.specs.Parts.{partFrom, partTo, tableBlocks, tableDifferences};
+ghost use Rattle.tables.specs.Parts.{partFrom, partTo, tableBlocks, tableDifferences};
 ghost use Rattle.volume.specs.Volume.{isStop};
 ghost use Rattle.routing.specs.Walks.{afterOf, begunOf, clientEnd, clientsBegun, goesOn, isFailureCall, isFailureStep, isOfEachCall, isOneStep};
 ghost use Rattle.routing.specs.Walks.{isStopCall, isStopStep, looksOf, nodeEnd, nodesBegun, picksOf, pickRequestOf, refusedWalk, seenClient, seenNode, stepIn};
@@ -8,10 +8,6 @@ ghost use Rattle.routing.specs.Walks.{stepFor, stepRequestOf, stoppingOf
 use crate::Request;
 use crate::VolumeCall;
 use crate::Walk;
-use crate::volumes::part_from;
-use crate::volumes::part_to;
-use crate::volumes::table_blocks;
-use crate::volumes::table_differences;
 use calls::Answer;
 use calls::StepCall;
 use limits::at_node::is_client_within;
@@ -19,6 +15,10 @@ use records::ClientCall;
 use records::ClientRecord;
 use records::NodeRecord;
 use records::Refusal;
+use tables::part_from;
+use tables::part_to;
+use tables::table_blocks;
+use tables::table_differences;
 
 fn is_stop_by(op: ClientCall) -> bool
     ensures { λ r. ⌜ r ≡ isStop op ⌝ }

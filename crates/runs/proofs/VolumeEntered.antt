@@ -28,7 +28,7 @@ use Rattle.taking.specs.Table.{clientsIn, nodesIn}
 use Rattle.volume.specs.Volume.{Volume, VolumeCall, noStripe, stripeLimit, volumeStep}
 use Rattle.volume.proofs.Steps.{answer-one}
 use Rattle.volumeshelf.specs.Volumes.{Renewed, ofStripe, volumeIn}
-use Rattle.routing.specs.declared.Volume as code
+use Rattle.tables.specs.declared.Volume as code
 use Rattle.runs.specs.Entered.{Tables}
 use Rattle.runs.specs.Runs.{Begun}
 use Rattle.runs.specs.Volume.{VolumeBegun}

@@ -1,4 +1,5 @@
--- Demand 3 of the entry points of shelf: a caller keeps five tables and makes any list of calls of `step`, `pick`, `read` and `read_answer` on them. Assumes nothing.
+-- Demand 3 of the entry points of shelf: a caller keeps five tables and makes any list of calls of `step`, `pick`, `read` and `read_answer` on them.
+-- Assumes nothing.
 use mathlib.Core.List.{List, []}
 use mathlib.Core.Path.{_≡_}
 use Prim.Native.Nat.{ℕ}

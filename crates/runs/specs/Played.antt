@@ -1,5 +1,5 @@
--- Demand 3 of `step::play` and `step::read`, on a stripe by value and its tables. A list begins with `Stripe::fresh()` and blocks of zeros: what it ensures, `Fresh`, says
--- that they are seen as a fresh stripe. Assumes nothing.
+-- Demand 3 of `step::play` and `step::read`, on a stripe by value and its tables. A list begins with `Stripe::fresh()` and blocks of zeros: what it
+-- ensures, `Fresh`, says that they are seen as a fresh stripe. Assumes nothing.
 use mathlib.Core.List.{List}
 use Prim.Native.Nat.{ℕ}
 use Rattle.machine.specs.Stripe as Machine

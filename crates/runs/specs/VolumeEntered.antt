@@ -1,5 +1,5 @@
--- Demand 3 of the entry points of volumeshelf: a caller keeps a volume in five tables and makes any list of calls of `call`, `read` and `read_answer` on them. A list
--- begins with what `fresh` leaves. Assumes nothing.
+-- Demand 3 of the entry points of volumeshelf: a caller keeps a volume in five tables and makes any list of calls of `call`, `read` and `read_answer` on them.
+-- A list begins with what `fresh` leaves. Assumes nothing.
 use mathlib.Core.List.{List, []}
 use mathlib.Core.Path.{_≡_}
 use Prim.Native.Nat.{ℕ}

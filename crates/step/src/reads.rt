@@ -13,6 +13,7 @@ use crate::nodes;
 use calls::Answer;
 use calls::Reading;
 use calls::shown_part;
+use reading::has_picked;
 use records::ClientRecord;
 use records::Refusal;
 use records::Sizes;
@@ -23,7 +24,7 @@ use stripe::Seen;
 fn see(z: Sizes, c: u8, client: ClientRecord, nodes: Nodes) -> Seen
     ensures { λ r. ⌜ (hasPicked (clientOf client .rebuild) ≡ true → sizesWithin z ≡ true → Sees z c (nodesOf (z .n) nodes) r) ⌝ }
 {
-    if client.has_picked() {
+    if has_picked(client) {
         nodes.see(z, c)
     } else {
         Seen::none()

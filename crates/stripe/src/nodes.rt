@@ -1,23 +1,20 @@
 // All node records of a stripe, by value.
 ghost use mathlib.Core.Bool.{true, cond};
-ghost use mathlib.Core.List.{map};
 ghost use mathlib.Core.Path.{_≡_};
 ghost use Prim.Native.Nat.{ℕ, _+_, _<_, _≤_, max};
 ghost use Rattle.machine.specs.Stripe.{nodeAt};
 ghost use Rattle.basics.specs.Lists.{setAt, everyOf, someOf};
-ghost use Rattle.machine.specs.Rebuild.{restored, someRecons, countInit, largestEpoch, weakened};
-ghost use Rattle.records.specs.Node.{isInit, heldBy, heldAtL1, expiredFor, nodeWithin};
-ghost use Rattle.records.specs.View.{nodeOf, oldLmode, oldLmodes};
+ghost use Rattle.machine.specs.Rebuild.{someRecons, countInit, largestEpoch};
+ghost use Rattle.records.specs.Node.{isInit, heldAtL1, nodeWithin};
+ghost use Rattle.records.specs.View.{nodeOf};
 ghost use Rattle.records.specs.Sizes.{nodeLimit, sizesWithin};
 ghost use Rattle.stripe.specs.Seen.{Sees, applied};
-ghost use Rattle.stripe.specs.Nodes.{passes, Readable, changed, changedAfter};
+ghost use Rattle.stripe.specs.Nodes.{passes, Readable};
 ghost use Rattle.stripe.specs.View.{recordAt, nodesOf};
 use crate::seen::Change;
 use crate::seen::Seen;
-use code::NodeSet;
 use entries::Epoch;
 use entries::WriteId;
-use records::Lmode;
 use records::NodeRecord;
 use records::Sizes;
 
@@ -29,17 +26,10 @@ pub struct Nodes {
 // What is asked of a node.
 pub enum NodeTest {
     Outside(Sizes),
-    NotHeld(u8),
     NotHeldAtL1(u8),
     Recons,
     OldAtNorm(WriteId),
     Rebuilding(usize),
-}
-
-// What a call does to each of several nodes.
-pub enum NodeChange {
-    Expire(u8),
-    Weaken(u8),
 }
 
 impl NodeTest {
@@ -51,22 +41,10 @@ impl NodeTest {
         let rset = node.rset;
         match self {
             NodeTest::Outside(z) => !node.is_within(z),
-            NodeTest::NotHeld(c) => !node.held_by(c),
             NodeTest::NotHeldAtL1(c) => !node.held_at_l1(c),
             NodeTest::Recons => opmode.is_recons(),
             NodeTest::OldAtNorm(id) => opmode.is_norm() && node.entries.has_old(id),
             NodeTest::Rebuilding(j) => rset.contains(j),
-        }
-    }
-}
-
-impl NodeChange {
-    fn made(self, node: NodeRecord) -> NodeRecord
-        ensures { λ r. ⌜ nodeOf r ≡ changed self (nodeOf node) ⌝ }
-    {
-        match self {
-            NodeChange::Expire(c) => node.expired_for(c),
-            NodeChange::Weaken(c) => node.weakened_by(c),
         }
     }
 }
@@ -86,13 +64,6 @@ fn larger_epoch(largest: Epoch, node: NodeRecord) -> Epoch
 {
     let epoch = node.epoch;
     if largest.0 < epoch.0 { epoch } else { largest }
-}
-
-// The lmode of a node before it was locked.
-fn old_lmode(was_exp: bool) -> Lmode
-    ensures { λ r. ⌜ r ≡ oldLmode «was_exp» ⌝ }
-{
-    if was_exp { Lmode::Exp } else { Lmode::Unl }
 }
 
 impl Nodes {
@@ -132,13 +103,6 @@ impl Nodes {
         ensures { λ r. ⌜ r ≡ everyOf (nodeWithin z) (nodesOf (z .n) self) ⌝ }
     {
         !self.any(z.n, NodeTest::Outside(z))
-    }
-
-    pub fn all_held(self, n: usize, c: u8) -> bool
-        requires { ⌜ n ≤ nodeLimit ⌝ }
-        ensures { λ r. ⌜ r ≡ everyOf (heldBy c) (nodesOf n self) ⌝ }
-    {
-        !self.any(n, NodeTest::NotHeld(c))
     }
 
     pub fn all_held_at_l1(self, n: usize, c: u8) -> bool
@@ -211,49 +175,6 @@ impl Nodes {
         while i < end {
             let node = self.items[i];
             self.items[i] = change.made(i, node);
-            i += 1;
-        }
-        self
-    }
-
-    // Each node after the first k changed.
-    fn change_after(mut self, k: usize, n: usize, change: NodeChange) -> Self
-        requires { ⌜ (k ≤ n) × (n ≤ nodeLimit) ⌝ }
-        ensures { λ r. ⌜ nodesOf n r ≡ changedAfter k change (nodesOf n self) ⌝ }
-    {
-        let mut i = k;
-        while i < n {
-            let node = self.items[i];
-            self.items[i] = change.made(node);
-            i += 1;
-        }
-        self
-    }
-
-    pub fn expire(self, n: usize, c: u8) -> Self
-        requires { ⌜ n ≤ nodeLimit ⌝ }
-        ensures { λ r. ⌜ nodesOf n r ≡ map (expiredFor c) (nodesOf n self) ⌝ }
-    {
-        self.change_after(0, n, NodeChange::Expire(c))
-    }
-
-    pub fn weaken(self, z: Sizes, c: u8) -> Self
-        requires { ⌜ (z .k ≤ z .n) × (z .n ≤ nodeLimit) ⌝ }
-        ensures { λ r. ⌜ nodesOf (z .n) r ≡ weakened z c (nodesOf (z .n) self) ⌝ }
-    {
-        self.change_after(z.k, z.n, NodeChange::Weaken(c))
-    }
-
-    // Of nodes 1 to count, those that c still holds get their old lmode: EXP if in was_exp, else UNL.
-    pub fn restore(mut self, count: usize, c: u8, was_exp: NodeSet) -> Self
-        requires { ⌜ count ≤ nodeLimit ⌝ }
-        ensures { λ r. ⌜ ((n : ℕ) → nodesOf n r ≡ restored c (oldLmodes count «was_exp») (nodesOf n self)) ⌝ }
-    {
-        let mut i = 0;
-        while i < count {
-            let node = self.items[i];
-            let old = old_lmode(was_exp.contains(i + 1));
-            self.items[i] = node.given_back(c, old);
             i += 1;
         }
         self

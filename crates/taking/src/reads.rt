@@ -12,6 +12,7 @@ use crate::Sought;
 use crate::TakenClient;
 use calls::Answer;
 use calls::shown_part;
+use reading::has_picked;
 use records::Refusal;
 
 impl ReadRequest {
@@ -73,7 +74,7 @@ impl TakenClient {
             z: z,
             c: self.c,
             j: request.i as usize,
-            all: client.has_picked(),
+            all: has_picked(client),
         }
     }
 }

@@ -25,9 +25,9 @@ use Rattle.parts.specs.Inside.{cut}
 use Rattle.records.specs.declared.Sizes as records
 use Rattle.records.specs.Sizes.{sizesWithin}
 use Rattle.records.specs.View.{clientOf, nodeOf}
-use Rattle.routing.specs.declared.Volume.{Volume}
-use Rattle.routing.specs.Parts.{volumeWithin}
-use Rattle.routing.proofs.Within.{Small, small}
+use Rattle.tables.specs.declared.Volume.{Volume}
+use Rattle.tables.specs.Parts.{volumeWithin}
+use Rattle.tables.proofs.Within.{Small, small}
 use Rattle.script.specs.Reading.{kept}
 use Rattle.script.proofs.Clipping as Clip
 use Rattle.script.proofs.Clipping.{and-false}

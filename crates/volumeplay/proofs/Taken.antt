@@ -19,7 +19,7 @@ use Rattle.stripe.specs.View.{blankRecord}
 use Rattle.volumescript.specs.declared.looking.Looked.{Looked}
 use Rattle.volumescript.specs.declared.looking.Looked.the-variants.{None, Stripe}
 use Rattle.volumescript.specs.Looking.{clientsLooked, nodesLooked}
-use Rattle.routing.proofs.Parts.{part-within}
+use Rattle.tables.proofs.Parts.{part-within}
 use Rattle.volumeplay.specs.declared.Turn.{Turn}
 use Rattle.volumeplay.specs.declared.stripes.ClientsTaken.{ClientsTaken}
 use Rattle.volumeplay.specs.declared.stripes.NodesTaken.{NodesTaken}

@@ -9,7 +9,7 @@ use Rattle.records.specs.declared.ClientRecord.{ClientRecord}
 use Rattle.records.specs.declared.NodeRecord.{NodeRecord}
 use Rattle.routing.specs.declared.Request.{Request}
 use Rattle.routing.specs.declared.SizedRead.{SizedRead}
-use Rattle.routing.specs.Parts.{lengthsOf}
+use Rattle.tables.specs.Parts.{lengthsOf}
 use Rattle.routing.specs.Walks.{sizedOf}
 use Rattle.volumescript.specs.Asking.{callIn, countIn, readIn}
 use Rattle.volumeshelf.specs.Volumes.{AnswersVolume, CallsVolume}

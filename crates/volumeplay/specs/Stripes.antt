@@ -9,7 +9,7 @@ use Rattle.parts.specs.Inside.{Range}
 use Rattle.records.specs.declared.ClientRecord.{ClientRecord}
 use Rattle.records.specs.declared.NodeRecord.{NodeRecord}
 use Rattle.records.specs.Sizes.{clientLimit, nodeLimit}
-use Rattle.routing.specs.Parts.{partOf}
+use Rattle.tables.specs.Parts.{partOf}
 use Rattle.step.specs.View.{blankClient}
 use Rattle.stripe.specs.View.{blankRecord}
 use Rattle.volumescript.specs.declared.looking.Looked.{Looked}

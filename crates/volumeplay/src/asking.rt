@@ -6,7 +6,7 @@ use crate::Turn;
 use calls::Answer;
 use routing::Request;
 use routing::SizedRead;
-use routing::Volume;
+use tables::Volume;
 
 fn least(a: usize, b: usize) -> usize
     ensures { λ r. ⌜ r ≡ min a b ⌝ }

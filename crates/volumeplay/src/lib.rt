@@ -9,8 +9,8 @@ mod stripes; // stripes.rt: the records of one stripe, by value
 mod table; // table.rt: the loops that take them out of the tables
 mod next_line; // next_line.rt: the next line of standard input
 
-use routing::Volume;
 use streams::input::Input;
+use tables::Volume;
 use volumescript::reader::VolumeLine;
 
 // How many node records and client records there is memory for, of all stripes together.

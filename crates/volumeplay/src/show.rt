@@ -9,15 +9,15 @@ use blocks::block_of;
 use calls::Answer;
 use format::state::put_state;
 use records::Source;
-use routing::Volume;
-use routing::stripe_part;
-use routing::table_blocks;
-use routing::table_differences;
 use step::Clients;
 use streams::output::flush;
 use streams::output::put;
 use streams::output::put_text;
 use stripe::Nodes;
+use tables::Volume;
+use tables::stripe_part;
+use tables::table_blocks;
+use tables::table_differences;
 use volumescript::reader::VolumeLine;
 
 // Stripe s, if there is one.

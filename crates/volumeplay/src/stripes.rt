@@ -5,10 +5,10 @@ use crate::Turn;
 use records::ClientRecord;
 use records::NodeRecord;
 use records::Sizes;
-use routing::part_from;
-use routing::part_to;
 use step::Clients;
 use stripe::Nodes;
+use tables::part_from;
+use tables::part_to;
 use volumescript::looking::Looked;
 
 // The records from `first` on and before `end` of a table are the first of these.

@@ -4,8 +4,8 @@ use mathlib.Core.Path.{_≡_}
 use lib.Dec.{leb}
 use borrow.Author.Tests.{leb-true}
 use Rattle.basics.proofs.Tests.{and-left, and-right}
-use Rattle.routing.specs.declared.Volume.{Volume}
-use Rattle.routing.specs.Parts.{lengthsOf}
+use Rattle.tables.specs.declared.Volume.{Volume}
+use Rattle.tables.specs.Parts.{lengthsOf}
 use Rattle.volumerun.specs.Memory.{Fits, fitsIn}
 
 pub fits-tables : (v : Volume) → fitsIn v ≡ true → Fits v

@@ -2,9 +2,9 @@
 use mathlib.Core.Bool.{Bool, _&&_}
 use Prim.Native.Nat.{_≤_}
 use lib.Dec.{leb}
-use Rattle.routing.specs.declared.Lengths.{Lengths}
-use Rattle.routing.specs.declared.Volume.{Volume}
-use Rattle.routing.specs.Parts.{lengthsOf}
+use Rattle.tables.specs.declared.Lengths.{Lengths}
+use Rattle.tables.specs.declared.Volume.{Volume}
+use Rattle.tables.specs.Parts.{lengthsOf}
 
 -- node records, client records, bytes of blocks and of spare each, bytes of differences, bytes of a value
 abbrev pub fitsLengths : Lengths → Bool

@@ -9,8 +9,8 @@ use layout::Home;
 use records::Sizes;
 use routing::ReadRequest;
 use routing::Request;
-use routing::Volume;
 use routing::VolumeCall;
+use tables::Volume;
 
 // A call that every volume refuses: a volume of no stripes.
 fn no_volume() -> Volume

@@ -43,12 +43,12 @@ use Rattle.volume.proofs.Cases.{each-ind}
 use Rattle.volume.proofs.Each.{each-in}
 use Rattle.volume.proofs.Steps.{put-length, put-other, put-same}
 use Rattle.routing.specs.declared.Request.{Request}
-use Rattle.routing.specs.declared.Volume.{Volume}
+use Rattle.tables.specs.declared.Volume.{Volume}
 use Rattle.routing.specs.declared.VolumeCall.{VolumeCall}
 use Rattle.routing.specs.declared.VolumeCall.the-variants.{Pick, Step}
 use Rattle.routing.specs.declared.Walk.{Walk}
 use Rattle.volumeshelf.specs.Entry.{ClientsLooked, NodesLooked}
-use Rattle.routing.specs.Parts.{volumeWithin}
+use Rattle.tables.specs.Parts.{volumeWithin}
 use Rattle.volumeshelf.specs.Volumes.{CallsVolume, callOf, calling, volumeIn}
 use Rattle.routing.specs.Walks.{Looks, afterOf, begunOf, clientEnd, goesOn, isFailureCall, isOfEachCall, isPlaceOf, isStopCall, looksOf, nodeEnd, stoppingOf, walkFits, walkTo}
 use Rattle.volumeshelf.proofs.Fits.{Fits, fits-false, fits-past, fits-true}

@@ -15,13 +15,13 @@ use Rattle.records.specs.Sizes.{sizesWithin}
 use Rattle.volume.specs.Volume as Machine
 use Rattle.volume.specs.Volume.{givenFits, isOfEach, on, onEach, onOne, stripeLimit, volumeStep}
 use Rattle.routing.specs.declared.Request.{Request}
-use Rattle.routing.specs.declared.Volume.{Volume}
+use Rattle.tables.specs.declared.Volume.{Volume}
 use Rattle.routing.specs.declared.VolumeCall.{VolumeCall}
 use Rattle.routing.specs.declared.VolumeCall.the-variants.{Pick, Step}
-use Rattle.routing.specs.Parts.{volumeWithin}
+use Rattle.tables.specs.Parts.{volumeWithin}
 use Rattle.volumeshelf.specs.Volumes.{callOf, calling, tablesFit, volumeIn}
 use Rattle.routing.specs.Walks.{valueFits, walkFits}
-use Rattle.routing.proofs.Within.{Small, blocks-table, differences-table, small}
+use Rattle.tables.proofs.Within.{Small, blocks-table, differences-table, small}
 use Rattle.volumeshelf.proofs.Turn.{Fit, Lent, stripe-count}
 
 -- the bytes that a call is given

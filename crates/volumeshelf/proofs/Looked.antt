@@ -21,10 +21,10 @@ use Rattle.step.specs.View.{blankClient}
 use Rattle.stripe.specs.View.{blankRecord}
 use Rattle.routing.specs.declared.Walk.{Walk}
 use Rattle.volumeshelf.specs.Entry.{ClientsLooked, NodesLooked}
-use Rattle.routing.specs.Parts.{volumeWithin}
+use Rattle.tables.specs.Parts.{volumeWithin}
 use Rattle.routing.specs.Walks.{Looks, clientEnd, clientsBegun, isPlaceOf, isStopCall, looksOf, nodeEnd, nodesBegun, refusedWalk, seenClient, seenNode}
 use Rattle.routing.specs.Walks.{stoppingOf}
-use Rattle.routing.proofs.Within.{small}
+use Rattle.tables.proofs.Within.{small}
 
 -- a look that ends within the table, or is refused, and then ends at 0
 module _ (end : Walk → ℕ) (none : (w : Walk) → end (refusedWalk w) ≡ 0) (w : Walk) (n : ℕ) where

@@ -5,9 +5,9 @@ use native.Mathlib.Omega.{arith}
 use Rattle.parts.proofs.Part.{Within}
 use Rattle.routing.specs.declared.Walk.{Walk}
 use Rattle.volumeshelf.specs.Entry.{blocksPart, clientsPart, differencesPart, nodesPart, valuePart}
-use Rattle.routing.specs.Parts.{partFrom, partTo, tableBlocks, tableDifferences}
+use Rattle.tables.specs.Parts.{partFrom, partTo, tableBlocks, tableDifferences}
 use Rattle.routing.specs.Walks.{isFailureCall}
-use Rattle.routing.proofs.Parts.{part-within}
+use Rattle.tables.proofs.Parts.{part-within}
 
 pub nodes-within : (w : Walk) (len : ℕ) → Within (nodesPart w len) len
 nodes-within w = part-within (w .at) (w .volume .z .n)

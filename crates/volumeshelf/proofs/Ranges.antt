@@ -11,7 +11,7 @@ use lib.Seq.{length-take-le, take-at, drop-at, take-take, drop-drop, take-add}
 use borrow.Author.Tests.{lt-ltb, le-leb}
 use Rattle.parts.specs.Inside.{Only, partIn}
 use Rattle.volume.specs.Volume.{stripeLimit}
-use Rattle.routing.specs.Parts.{hasPart, partFrom, partMost, partOf, partTo}
+use Rattle.tables.specs.Parts.{hasPart, partFrom, partMost, partOf, partTo}
 use Rattle.volumeshelf.specs.Volumes.{ofStripe}
 
 -- ---- a list with others in the place of its n elements from a on

@@ -38,14 +38,14 @@ use Rattle.volume.proofs.Steps.{put-itself}
 use Rattle.routing.specs.declared.ReadRequest.{ReadRequest}
 use Rattle.routing.specs.declared.ReadWalk.{ReadWalk}
 use Rattle.routing.specs.declared.SizedRead.{SizedRead}
-use Rattle.routing.specs.declared.Volume.{Volume}
-use Rattle.routing.specs.Parts.{partOf, tableBlocks, volumeWithin}
+use Rattle.tables.specs.declared.Volume.{Volume}
+use Rattle.tables.specs.Parts.{partOf, tableBlocks, volumeWithin}
 use Rattle.volumeshelf.specs.Volumes.{AnswersVolume, ReadsVolume, ofStripe, reading, volumeIn}
 use Rattle.routing.specs.Walks.{readAfterOf, readBegunOf, readFits, readRequestOf, readWalk, shownOf, sizedOf}
-use Rattle.routing.proofs.Parts.{part-within}
+use Rattle.tables.proofs.Parts.{part-within}
 use Rattle.routing.proofs.ReadRequest as read-request
 use Rattle.routing.proofs.SizedRead as sized-read
-use Rattle.routing.proofs.Within.{Small, blocks-table, small}
+use Rattle.tables.proofs.Within.{Small, blocks-table, small}
 use Rattle.volumeshelf.proofs.Ranges.{part-is}
 use Rattle.volumeshelf.proofs.Turn.{Lent, stripe-at, stripe-count, stripe-length}
 use Rattle.volumeshelf.proofs.Types.{read-request-rec, sized-read-rec}

@@ -19,9 +19,9 @@ use Rattle.records.specs.Node.{freshNode}
 use Rattle.records.specs.View.{clientOf, nodeOf}
 use Rattle.step.specs.View.{blankClient}
 use Rattle.stripe.specs.View.{blankRecord}
-use Rattle.routing.specs.declared.Renewal.{Renewal}
-use Rattle.routing.specs.declared.Volume.{Volume}
-use Rattle.routing.specs.Renewals.{Zeroed, freshFits, renewalEnd, renewalOf}
+use Rattle.tables.specs.declared.Renewal.{Renewal}
+use Rattle.tables.specs.declared.Volume.{Volume}
+use Rattle.tables.specs.Renewals.{Zeroed, freshFits, renewalEnd, renewalOf}
 use Rattle.volumeshelf.specs.Entry.{ClientsRenewed, NodesRenewed}
 use Rattle.volumeshelf.specs.Volumes.{FreshVolume}
 use Rattle.volumeshelf.specs.Volumes as volumes

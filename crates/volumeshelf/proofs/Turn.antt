@@ -32,15 +32,15 @@ use Rattle.taking.specs.Table.{clientsIn, nodesIn}
 use Rattle.layout.specs.Layout.{nodeFor}
 use Rattle.records.specs.View.{clientOf, nodeOf}
 use Rattle.volume.specs.Volume.{callIn, givenFits, noStripe, stripeAt}
-use Rattle.routing.specs.declared.Volume.{Volume}
+use Rattle.tables.specs.declared.Volume.{Volume}
 use Rattle.routing.specs.declared.VolumeCall.{VolumeCall}
 use Rattle.routing.specs.declared.VolumeCall.the-variants.{Pick, Step}
 use Rattle.routing.specs.declared.Walk.{Walk}
 use Rattle.volumeshelf.specs.Entry.{OnParts, PicksPart, StepsPart, valuePart}
-use Rattle.routing.specs.Parts.{partMost, partOf, tableBlocks, tableDifferences}
+use Rattle.tables.specs.Parts.{partMost, partOf, tableBlocks, tableDifferences}
 use Rattle.volumeshelf.specs.Volumes.{callOf, ofStripe, volumeIn}
 use Rattle.routing.specs.Walks.{pickRequestOf, picksOf, stepFor, stepRequestOf, walkTo}
-use Rattle.routing.proofs.Within.{Small, blocks-table, differences-table}
+use Rattle.tables.proofs.Within.{Small, blocks-table, differences-table}
 use Rattle.volumeshelf.proofs.Ranges.{fits-in, others-same, part-is, table-same}
 
 abbrev pub Lent : Type 0

@@ -7,10 +7,10 @@ use Rattle.routing.proofs.SizedRead as sized-read
 use Rattle.routing.proofs.SizedRead.Laws as sized-read-laws
 use Rattle.routing.proofs.ReadWalk as read-walk
 use Rattle.routing.proofs.ReadWalk.Laws as read-walk-laws
-use Rattle.routing.proofs.Renewal as renewal
-use Rattle.routing.proofs.Renewal.Laws as renewal-laws
-use Rattle.routing.proofs.Volume as volume
-use Rattle.routing.proofs.Volume.Laws as volume-laws
+use Rattle.tables.proofs.Renewal as renewal
+use Rattle.tables.proofs.Renewal.Laws as renewal-laws
+use Rattle.tables.proofs.Volume as volume
+use Rattle.tables.proofs.Volume.Laws as volume-laws
 use Rattle.routing.proofs.Walk as walk
 use Rattle.routing.proofs.Walk.Laws as walk-laws
 

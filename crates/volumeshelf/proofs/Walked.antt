@@ -17,12 +17,12 @@ use Rattle.parts.specs.Turns.{Turns, none, more}
 use Rattle.records.specs.declared.Refusal.{Refusal}
 use Rattle.records.specs.Refusals.{changes}
 use Rattle.volume.specs.Volume.{callIn, givenFits}
-use Rattle.routing.specs.declared.Volume.{Volume}
+use Rattle.tables.specs.declared.Volume.{Volume}
 use Rattle.routing.specs.declared.VolumeCall.{VolumeCall}
 use Rattle.routing.specs.declared.Walk.{Walk}
 use Rattle.volumeshelf.specs.Volumes.{callOf}
 use Rattle.routing.specs.Walks.{afterOf, goesOn, walkTo}
-use Rattle.routing.proofs.Within.{Small}
+use Rattle.tables.proofs.Within.{Small}
 use Rattle.volumeshelf.proofs.Turn.{Fit, Lent, Makes, Turned, stripeOf, turned}
 
 -- a refusal that leaves all unchanged

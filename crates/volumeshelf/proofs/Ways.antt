@@ -16,7 +16,7 @@ use Rattle.parts.proofs.Route.{Looked, One, Plain}
 use Rattle.records.specs.declared.ClientRecord.{ClientRecord}
 use Rattle.records.specs.declared.NodeRecord.{NodeRecord}
 use Rattle.routing.specs.declared.Request.{Request}
-use Rattle.routing.specs.declared.Volume.{Volume}
+use Rattle.tables.specs.declared.Volume.{Volume}
 use Rattle.routing.specs.declared.VolumeCall.{VolumeCall}
 use Rattle.routing.specs.declared.Walk.{Walk}
 use Rattle.routing.specs.Walks.{afterOf, begunOf, clientEnd, goesOn, isFailureCall, isOfEachCall, isOneStep, isStopCall, looksOf, nodeEnd, picksOf, walkTo}

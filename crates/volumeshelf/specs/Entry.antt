@@ -16,9 +16,9 @@ use Rattle.shelf.specs.Shelf.{PicksOnly, StepsLent}
 use Rattle.taking.specs.Table.{clientsIn, nodesIn}
 use Rattle.step.specs.View.{blankClient}
 use Rattle.stripe.specs.View.{blankRecord}
-use Rattle.routing.specs.declared.Renewal.{Renewal}
+use Rattle.tables.specs.declared.Renewal.{Renewal}
 use Rattle.routing.specs.declared.Walk.{Walk}
-use Rattle.routing.specs.Parts.{partOf, tableBlocks, tableDifferences}
+use Rattle.tables.specs.Parts.{partOf, tableBlocks, tableDifferences}
 use Rattle.routing.specs.Walks.{Looks, afterOf, clientEnd, goesOn, isPlaceOf, nodeEnd, pickRequestOf, picksOf, stepRequestOf, stoppingOf, valueFrom, valueTo}
 
 -- every node's record, and the client's in every stripe

@@ -25,10 +25,10 @@ use Rattle.volume.specs.Volume.{on, volumeStep}
 use Rattle.routing.specs.declared.ReadRequest.{ReadRequest}
 use Rattle.routing.specs.declared.Request.{Request}
 use Rattle.routing.specs.declared.SizedRead.{SizedRead}
-use Rattle.routing.specs.declared.Volume.{Volume}
+use Rattle.tables.specs.declared.Volume.{Volume}
 use Rattle.routing.specs.declared.VolumeCall.{VolumeCall}
 use Rattle.routing.specs.declared.VolumeCall.the-variants.{Pick, Step}
-use Rattle.routing.specs.Renewals.{freshFits}
+use Rattle.tables.specs.Renewals.{freshFits}
 use Rattle.routing.specs.Walks.{shownOf, sizedOf}
 
 -- stripe s has `each` elements of a table, after those of the stripes before it

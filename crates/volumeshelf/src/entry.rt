@@ -12,8 +12,8 @@ use records::NodeRecord;
 use routing::ReadRequest;
 use routing::Request;
 use routing::SizedRead;
-use routing::Volume;
 use routing::Walk;
+use tables::Volume;
 
 // A step on the tables' parts of the stripe that the call has come to.
 fn step_part(

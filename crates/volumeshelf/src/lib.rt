@@ -5,7 +5,7 @@
 // A refusal of the volume's own goes to no stripe.
 //
 // The toolchain walks no function over a slice of structs by itself. So the functions of table.rt and entry.rt do nothing else, and each form is walked
-// once, as a law. All the rest is by value, in crate routing.
+// once, as a law. All the rest is by value, in crates tables and routing.
 mod entry; // entry.rt: the entry points
 mod table; // table.rt: the loops over the tables
 

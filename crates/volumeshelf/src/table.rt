@@ -2,8 +2,8 @@
 ghost use Rattle.volumeshelf.specs.Entry.{ClientsLooked, ClientsRenewed, NodesLooked, NodesRenewed};
 use records::ClientRecord;
 use records::NodeRecord;
-use routing::Renewal;
 use routing::Walk;
+use tables::Renewal;
 
 pub(crate) fn look_nodes(nodes: &[NodeRecord], begun: Walk) -> Walk
     ensures { λ r. ⌜ NodesLooked (now (nodes .entry)) begun r ⌝ }

@@ -4,7 +4,7 @@ use mathlib.Core.Path.{sym, _∙_}
 use borrow.Author.Needs.{needs}
 use borrow.Author.Tests.{not-false}
 use Rattle.format.proofs.Tables.{within-tables}
-use Rattle.routing.proofs.Within.{blocks-table}
+use Rattle.tables.proofs.Within.{blocks-table}
 use Rattle.volumeplay.proofs.show.put_stripe.Statement.{statement}
 use Rattle.volumeplay.proofs.show.put_stripe.Tie as tie
 

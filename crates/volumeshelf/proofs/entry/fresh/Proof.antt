@@ -10,21 +10,21 @@ use Rattle.parts.proofs.Renew.{Change, Close, meets}
 use Rattle.records.proofs.ClientRecord as client
 use Rattle.records.proofs.NodeRecord as node
 use Rattle.shelf.proofs.Types.{answer-rec, client-rec, node-rec}
-use Rattle.routing.specs.Renewals.{Zeroed, renewalOf}
+use Rattle.tables.specs.Renewals.{Zeroed, renewalOf}
 use Rattle.volumeshelf.specs.Entry.{ClientsRenewed, NodesRenewed}
 use Rattle.volumeshelf.specs.Volumes.{FreshVolume}
-use Rattle.routing.proofs.Renewal as renewal
+use Rattle.tables.proofs.Renewal as renewal
 use Rattle.volumeshelf.proofs.Renewed.{volume-renewed}
 use Rattle.volumeshelf.proofs.Types.{renewal-rec, volume-rec}
-use Rattle.routing.proofs.Volume as volume
-use Rattle.routing.proofs.Volume.renewal.Met as begin-thm
-use Rattle.routing.proofs.Volume.renewal.Symbol as begin-def
+use Rattle.tables.proofs.Volume as volume
+use Rattle.tables.proofs.Volume.renewal.Met as begin-thm
+use Rattle.tables.proofs.Volume.renewal.Symbol as begin-def
 use Rattle.volumeshelf.proofs.table.renew_nodes.Met as nodes-thm
 use Rattle.volumeshelf.proofs.table.renew_nodes.Symbol as nodes-def
 use Rattle.volumeshelf.proofs.table.renew_clients.Met as clients-thm
 use Rattle.volumeshelf.proofs.table.renew_clients.Symbol as clients-def
-use Rattle.routing.proofs.Renewal.zero.Met as zero-thm
-use Rattle.routing.proofs.Renewal.zero.Symbol as zero-def
+use Rattle.tables.proofs.Renewal.zero.Met as zero-thm
+use Rattle.tables.proofs.Renewal.zero.Symbol as zero-def
 use Rattle.volumeshelf.proofs.entry.fresh as this
 use Rattle.volumeshelf.proofs.entry.fresh.Code as code
 use Rattle.volumeshelf.proofs.entry.fresh.Key as key
@@ -40,10 +40,10 @@ fresh-spec 𝓤 H 𝓜 𝓖 𝓡 =
     zero-def.name
     𝓤 H (𝓖 .A) (givenOf 𝓤 H 𝓜 𝓖) (tablesOf 𝓤 H 𝓜 (tables 𝓤 H 𝓜 𝓡 code.env))
     (cited 𝓤 H (Ask4 volume.the-row usize usize usize renewal.the-row (λ v n c b r. r ≡ renewalOf v n c b) 𝓤 H (𝓖 .A)) 𝓜 𝓡 code.env begin-def.name
-    begin-def.routine code.calls-routing·Volume·renewal (begin-thm.met 𝓤 H 𝓜 𝓖 𝓡))
+    begin-def.routine code.calls-tables·Volume·renewal (begin-thm.met 𝓤 H 𝓜 𝓖 𝓡))
     (cited 𝓤 H (Change node.the-row renewal.the-row node-rec renewal-rec NodesRenewed 𝓤 H (𝓖 .A)) 𝓜 𝓡 code.env nodes-def.name nodes-def.routine
     code.calls-volumeshelf·table·renew-nodes (nodes-thm.met 𝓤 H 𝓜 𝓖 𝓡))
     (cited 𝓤 H (Change client.the-row renewal.the-row client-rec renewal-rec ClientsRenewed 𝓤 H (𝓖 .A)) 𝓜 𝓡 code.env clients-def.name clients-def.routine
     code.calls-volumeshelf·table·renew-clients (clients-thm.met 𝓤 H 𝓜 𝓖 𝓡))
-    (cited 𝓤 H (Close renewal.the-row answer.the-row renewal-rec Zeroed 𝓤 H (𝓖 .A)) 𝓜 𝓡 code.env zero-def.name zero-def.routine code.calls-routing·Renewal·zero
+    (cited 𝓤 H (Close renewal.the-row answer.the-row renewal-rec Zeroed 𝓤 H (𝓖 .A)) 𝓜 𝓡 code.env zero-def.name zero-def.routine code.calls-tables·Renewal·zero
     (zero-thm.met 𝓤 H 𝓜 𝓖 𝓡)))

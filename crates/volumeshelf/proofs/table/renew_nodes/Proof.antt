@@ -11,17 +11,17 @@ use Rattle.records.specs.Node.{freshNode}
 use Rattle.records.specs.View.{nodeOf}
 use Rattle.shelf.proofs.Types.{node-rec}
 use Rattle.stripe.specs.View.{blankRecord}
-use Rattle.routing.specs.Renewals.{renewalEnd}
+use Rattle.tables.specs.Renewals.{renewalEnd}
 use Rattle.volumeshelf.specs.Entry.{NodesRenewed}
-use Rattle.routing.proofs.Renewal as renewal
+use Rattle.tables.proofs.Renewal as renewal
 use Rattle.volumeshelf.proofs.Renewed.{nodes-renewed, renewal-ends}
 use Rattle.volumeshelf.proofs.Types.{renewal-rec}
-use Rattle.routing.proofs.Renewal.first.Met as first-thm
-use Rattle.routing.proofs.Renewal.first.Symbol as first-def
-use Rattle.routing.proofs.Renewal.end_in.Met as end-thm
-use Rattle.routing.proofs.Renewal.end_in.Symbol as end-def
-use Rattle.routing.proofs.Renewal.node.Met as at-thm
-use Rattle.routing.proofs.Renewal.node.Symbol as at-def
+use Rattle.tables.proofs.Renewal.first.Met as first-thm
+use Rattle.tables.proofs.Renewal.first.Symbol as first-def
+use Rattle.tables.proofs.Renewal.end_in.Met as end-thm
+use Rattle.tables.proofs.Renewal.end_in.Symbol as end-def
+use Rattle.tables.proofs.Renewal.node.Met as at-thm
+use Rattle.tables.proofs.Renewal.node.Symbol as at-def
 use Rattle.volumeshelf.proofs.table.renew_nodes as this
 use Rattle.volumeshelf.proofs.table.renew_nodes.Code as code
 use Rattle.volumeshelf.proofs.table.renew_nodes.Key as key
@@ -35,9 +35,9 @@ renew-nodes-spec 𝓤 H 𝓜 𝓖 𝓡 =
     (meets node.the-row renewal.the-row node-rec renewal-rec first-def.name end-def.name at-def.name
     (λ _. 0) renewalEnd (λ t i old r. nodeOf r ≡ freshNode) NodesRenewed blankRecord tt renewal-ends nodes-renewed
     𝓤 H (𝓖 .A) (givenOf 𝓤 H 𝓜 𝓖) (tablesOf 𝓤 H 𝓜 (tables 𝓤 H 𝓜 𝓡 code.env))
-    (cited 𝓤 H (Ask renewal.the-row usize (λ t r. r ≡ 0) 𝓤 H (𝓖 .A)) 𝓜 𝓡 code.env first-def.name first-def.routine code.calls-routing·Renewal·first
+    (cited 𝓤 H (Ask renewal.the-row usize (λ t r. r ≡ 0) 𝓤 H (𝓖 .A)) 𝓜 𝓡 code.env first-def.name first-def.routine code.calls-tables·Renewal·first
     (first-thm.met 𝓤 H 𝓜 𝓖 𝓡))
     (cited 𝓤 H (Ask2 renewal.the-row usize usize (λ t n r. r ≡ renewalEnd t n) 𝓤 H (𝓖 .A)) 𝓜 𝓡 code.env end-def.name end-def.routine
-    code.calls-routing·Renewal·end-in (end-thm.met 𝓤 H 𝓜 𝓖 𝓡))
+    code.calls-tables·Renewal·end-in (end-thm.met 𝓤 H 𝓜 𝓖 𝓡))
     (cited 𝓤 H (Ask3 renewal.the-row usize node.the-row node.the-row (λ t i old r. nodeOf r ≡ freshNode) 𝓤 H (𝓖 .A)) 𝓜 𝓡 code.env at-def.name at-def.routine
-    code.calls-routing·Renewal·node (at-thm.met 𝓤 H 𝓜 𝓖 𝓡)))
+    code.calls-tables·Renewal·node (at-thm.met 𝓤 H 𝓜 𝓖 𝓡)))

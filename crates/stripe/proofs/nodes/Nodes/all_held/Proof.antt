@@ -1,8 +1,0 @@
--- All pass where none fails. Assumes nothing.
-use borrow.Author.Needs.{needs}
-use Rattle.stripe.proofs.NodeLists.{none-fails}
-use Rattle.stripe.proofs.nodes.Nodes.all_held.Statement.{statement}
-use Rattle.stripe.proofs.nodes.Nodes.all_held.Tie as tie
-
-pub all-held-spec : {M : Type 1} → statement M
-all-held-spec = tie.close (tie.spec (λ c κs. search needs) (λ c. none-fails _ _ (c .any .ensures)))
