@@ -2,7 +2,7 @@
 //! block that it is multiplied into.
 use mezgaudre::{add_times, decode, encode, product, Answer};
 use std::hint::black_box;
-use timing::{best_of, met, noise};
+use timing::{best_of, met, noise, on_own_stack};
 
 #[allow(dead_code)] // its product alone
 mod field;
@@ -177,7 +177,7 @@ fn aim(what: &str, measured: f64, least: f64) {
     );
 }
 
-fn main() {
+fn measure_all() {
     let rows = rows();
     println!("GB/s of bytes multiplied     B     library    row loop   ratio");
     let [_, _, added] = LENGTHS.map(|b| multiply_add(&rows, b));
@@ -208,4 +208,8 @@ fn main() {
         "a product alone, ns: {library:.1}, in plain Rust with a test for 0 {plain:.1}, ratio {:.2}",
         library / plain
     );
+}
+
+fn main() {
+    on_own_stack(measure_all);
 }

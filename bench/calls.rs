@@ -6,7 +6,7 @@ use std::cmp::Ordering;
 use std::hint::black_box;
 use tables::{accepted, callbench_calls, one_call, one_of_each, proved};
 use tables::{Buffer, Tables, Work, ADDS, CLIENTS, DUES, K, LENGTHS, LOST, N, SWAPS};
-use timing::{best_of, met};
+use timing::{best_of, met, on_own_stack};
 
 mod field;
 mod plain;
@@ -269,7 +269,7 @@ fn reads_of_both() -> [f64; 2] {
     )
 }
 
-fn main() {
+fn measure_all() {
     println!("ns            B      proved  plain Rust   ratio");
     let aims = [
         ("swap", lines("swap", SWAPS, plain_swaps, true), [2.0, 1.25]),
@@ -314,4 +314,8 @@ fn main() {
         "at most 1.1",
         ratio <= 1.1,
     );
+}
+
+fn main() {
+    on_own_stack(measure_all);
 }

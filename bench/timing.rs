@@ -1,9 +1,18 @@
 //! Times of things to compare, measured in many short rounds in each of which every one has its turn.
+use std::thread;
 use std::time::{Duration, Instant};
 
 const WARM_UP: Duration = Duration::from_millis(50);
 const ROUND: Duration = Duration::from_millis(2);
 const ROUNDS: usize = 150;
+const STACK: usize = 64 << 20;
+
+/// In a thread with room for the records of a volume on its stack, which begins at the same place of a page in every run: records by value lie there,
+/// and by where they lie beside the tables a call's time was seen to change by a third.
+pub fn on_own_stack(measure: fn()) {
+    let measuring = thread::Builder::new().stack_size(STACK).spawn(measure);
+    measuring.unwrap().join().unwrap();
+}
 
 /// Bytes with no pattern.
 pub fn noise(length: usize) -> Vec<u8> {

@@ -2,10 +2,9 @@
 //! beside a volume of one; and how fast a lost card is rebuilt, beside a plain encode of the same stripes.
 use mezgaudre::{encode, Answer};
 use std::hint::black_box;
-use std::thread;
 use tables::{callbench_calls, one_call, proved};
 use tables::{Tables, Work, ADDS, DUES, K, LENGTHS, N, SWAPS};
-use timing::{best_of, met};
+use timing::{best_of, met, on_own_stack};
 
 #[macro_use]
 mod tables;
@@ -16,7 +15,6 @@ entry_points!(callbench_volume_calls callbench_large_volume_calls);
 
 const STRIPES: usize = 1024;
 const STRIPE: usize = 511;
-const STACK: usize = 64 << 20;
 
 /// Eight swaps by one client, their adds, and the sweeps of a round.
 const ROUND: usize = 92;
@@ -125,8 +123,6 @@ fn measure_all() {
     println!("rebuild of a card beside a plain encode: {:.2}", rebuilt / encoded);
 }
 
-/// In a thread with room for the records of the volume on its stack.
 fn main() {
-    let measuring = thread::Builder::new().stack_size(STACK).spawn(measure_all);
-    measuring.unwrap().join().unwrap();
+    on_own_stack(measure_all);
 }
