@@ -21,6 +21,8 @@ use Rattle.records.specs.Client.{clientWithin}
 use Rattle.records.specs.Node.{nodeWithin}
 use Rattle.records.specs.Sizes.{sizesWithin}
 use Rattle.records.specs.View.{clientOf, nodeOf}
+use Rattle.tables.specs.declared.Volume.{Volume}
+use Rattle.tables.specs.Parts.{lengthsOf, partFrom, partOf, partTo, tableBlocks, volumeWithin}
 use Rattle.taking.specs.declared.PickRequest.{PickRequest}
 use Rattle.taking.specs.declared.SizedRead.{SizedRead}
 use Rattle.taking.specs.declared.Request.{Request}
@@ -29,11 +31,9 @@ use Rattle.routing.specs.declared.ReadRequest as read
 use Rattle.routing.specs.declared.SizedRead as sized
 use Rattle.routing.specs.declared.ReadWalk.{ReadWalk}
 use Rattle.routing.specs.declared.Request as request
-use Rattle.tables.specs.declared.Volume.{Volume}
 use Rattle.routing.specs.declared.VolumeCall.{VolumeCall}
 use Rattle.routing.specs.declared.VolumeCall.the-variants.{Pick, Step}
 use Rattle.routing.specs.declared.Walk.{Walk}
-use Rattle.tables.specs.Parts.{lengthsOf, partFrom, partOf, partTo, tableBlocks, volumeWithin}
 
 -- ---- the calls
 

@@ -9,8 +9,8 @@ use Rattle.records.specs.declared.ClientRecord.{ClientRecord}
 use Rattle.records.specs.declared.NodeRecord.{NodeRecord}
 use Rattle.routing.specs.declared.Request.{Request}
 use Rattle.routing.specs.declared.SizedRead.{SizedRead}
-use Rattle.tables.specs.Parts.{lengthsOf}
 use Rattle.routing.specs.Walks.{sizedOf}
+use Rattle.tables.specs.Parts.{lengthsOf}
 use Rattle.volumescript.specs.Asking.{callIn, countIn, readIn}
 use Rattle.volumeshelf.specs.Volumes.{AnswersVolume, CallsVolume}
 use Rattle.volumeplay.specs.declared.Turn.{Turn}

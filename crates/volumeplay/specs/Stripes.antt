@@ -9,9 +9,9 @@ use Rattle.parts.specs.Inside.{Range}
 use Rattle.records.specs.declared.ClientRecord.{ClientRecord}
 use Rattle.records.specs.declared.NodeRecord.{NodeRecord}
 use Rattle.records.specs.Sizes.{clientLimit, nodeLimit}
-use Rattle.tables.specs.Parts.{partOf}
 use Rattle.step.specs.View.{blankClient}
 use Rattle.stripe.specs.View.{blankRecord}
+use Rattle.tables.specs.Parts.{partOf}
 use Rattle.volumescript.specs.declared.looking.Looked.{Looked}
 use Rattle.volumescript.specs.declared.looking.Looked.the-variants.{None, Stripe}
 use Rattle.volumescript.specs.Looking.{clientsLooked, nodesLooked}

@@ -7,8 +7,8 @@ use Rattle.calls.specs.declared.StepCall.the-variants.{Swap}
 use Rattle.layout.specs.Layout.{homeOf}
 use Rattle.routing.specs.declared.ReadRequest.{ReadRequest}
 use Rattle.routing.specs.declared.Request.{Request}
-use Rattle.tables.specs.declared.Volume.{Volume}
 use Rattle.routing.specs.declared.VolumeCall.the-variants.{Pick, Step}
+use Rattle.tables.specs.declared.Volume.{Volume}
 use Rattle.volumescript.specs.declared.reader.VolumeLine.{VolumeLine}
 use Rattle.volumescript.specs.declared.reader.VolumeLine.the-variants.{Unreadable, One, Each, ReadBlock, SwapBlock, Show}
 

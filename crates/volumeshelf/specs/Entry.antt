@@ -16,10 +16,10 @@ use Rattle.shelf.specs.Shelf.{PicksOnly, StepsLent}
 use Rattle.taking.specs.Table.{clientsIn, nodesIn}
 use Rattle.step.specs.View.{blankClient}
 use Rattle.stripe.specs.View.{blankRecord}
-use Rattle.tables.specs.declared.Renewal.{Renewal}
 use Rattle.routing.specs.declared.Walk.{Walk}
-use Rattle.tables.specs.Parts.{partOf, tableBlocks, tableDifferences}
 use Rattle.routing.specs.Walks.{Looks, afterOf, clientEnd, goesOn, isPlaceOf, nodeEnd, pickRequestOf, picksOf, stepRequestOf, stoppingOf, valueFrom, valueTo}
+use Rattle.tables.specs.declared.Renewal.{Renewal}
+use Rattle.tables.specs.Parts.{partOf, tableBlocks, tableDifferences}
 
 -- every node's record, and the client's in every stripe
 abbrev pub NodesLooked : List NodeRecord → Walk → Walk → Type 0

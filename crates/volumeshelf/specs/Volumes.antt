@@ -25,11 +25,11 @@ use Rattle.volume.specs.Volume.{on, volumeStep}
 use Rattle.routing.specs.declared.ReadRequest.{ReadRequest}
 use Rattle.routing.specs.declared.Request.{Request}
 use Rattle.routing.specs.declared.SizedRead.{SizedRead}
-use Rattle.tables.specs.declared.Volume.{Volume}
 use Rattle.routing.specs.declared.VolumeCall.{VolumeCall}
 use Rattle.routing.specs.declared.VolumeCall.the-variants.{Pick, Step}
-use Rattle.tables.specs.Renewals.{freshFits}
 use Rattle.routing.specs.Walks.{shownOf, sizedOf}
+use Rattle.tables.specs.declared.Volume.{Volume}
+use Rattle.tables.specs.Renewals.{freshFits}
 
 -- stripe s has `each` elements of a table, after those of the stripes before it
 abbrev pub ofStripe : {X : Type 0} → ℕ → ℕ → List X → List X
