@@ -1,4 +1,5 @@
 // An answer, and what is returned with it, as text.
+#![tactic(auto)]
 mod images; // images.rt: the image of a stripe
 
 ghost use Rattle.std.specs.Prelude.{◌≤◌};

@@ -5,7 +5,7 @@ ghost use Rattle.gf256.specs.Field.{product};
 ghost use Rattle.blocks.specs.Doublings.{doublings};
 
 // A byte and its doublings.
-#[derive(Drop)]
+#[derive(Clone, Copy)]
 pub struct Doublings {
     pub c0: u8,
     pub c1: u8,

@@ -1,4 +1,5 @@
 // Blocks of bytes, and one block of a table of blocks.
+#![tactic(auto)]
 pub mod doublings; // doublings.rt: products of one byte by many
 
 ghost use Rattle.std.specs.Prelude.{◌≡◌, ◌+◌, ◌-◌, ◌*◌, ◌≤◌, length, replicate};

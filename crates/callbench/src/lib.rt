@@ -1,5 +1,6 @@
 // Calls on lent tables, one after another, for the benchmark to time: by the entry points of one stripe, and by that of a volume. And images and reads
 // of a stripe by value.
+#![tactic(auto)]
 mod images; // images.rt: images of a stripe by value
 mod reads; // reads.rt: reads of a stripe by value
 mod runs; // runs.rt: the calls
@@ -10,7 +11,7 @@ use records::Sizes;
 
 // Writes are those of client 1 at position 1, with their adds, and swept after each eight. Card is a card's failure, and then a rebuild of each stripe.
 // Ticks and locks are on nodes with 16 entries each.
-#[derive(Drop)]
+#[derive(Clone, Copy)]
 enum Work {
     Dues,
     Swaps,
@@ -24,7 +25,7 @@ enum Work {
 
 // Calls, one after another: `left` are left. They go round and round: the next is at place `at` of the places 0 to `last` of a round, and at place `pick` it
 // is a pick. The number is that of the first refusal, or 0. The stripe is that of a volume.
-#[derive(Drop)]
+#[derive(Clone, Copy)]
 struct Run {
     pub z: Sizes,
     pub stripes: usize,

@@ -1,4 +1,5 @@
 // The code: its sizes, its coefficients, sets of nodes, and the answers of encoding and decoding (which are in crate coding).
+#![tactic(auto)]
 ghost use Rattle.std.specs.Prelude.{◌≡◌, ◌≤◌};
 ghost use Rattle.code.specs.Calls.{code_number};
 ghost use Rattle.code.specs.Code;
@@ -10,7 +11,7 @@ pub use nodes::NodeSet;
 pub use ranges::Limits;
 
 // The answer of encoding and decoding.
-#[derive(Drop)]
+#[derive(Clone, Copy)]
 pub enum CodeAnswer {
     Accepted,
     OutOfLimits,

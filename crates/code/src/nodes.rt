@@ -9,7 +9,7 @@ ghost use Rattle.code.specs.View.{node_set_of};
 use crate::Limits;
 
 // Bit j - 1 says whether node j is in the set; the bits past the last node say nothing.
-#[derive(Drop)]
+#[derive(Clone, Copy)]
 pub struct NodeSet {
     bits: u32,
 }

@@ -8,7 +8,7 @@ use super::{Sizes, checksum, decodings};
 use code::{Limits, NodeSet};
 
 // The lengths of a case's buffers.
-#[derive(Drop)]
+#[derive(Clone, Copy)]
 struct Lengths {
     table: usize,
     data: usize,

@@ -4,7 +4,7 @@ ghost use Rattle.std.specs.Prelude.{◌<◌};
 use libc::STDOUT_FILENO;
 
 // The characters so far, at the first `length` places. The longest line is 256 bytes of two digits, and LF.
-#[derive(Drop)]
+#[derive(Clone, Copy)]
 pub struct Line {
     characters: [u8; 513],
     length: usize,

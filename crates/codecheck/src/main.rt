@@ -1,4 +1,5 @@
 // Prints the text whose rules stand at the head of reference/codecheck.py.
+#![tactic(auto)]
 mod cases; // cases.rt: the cases of the code
 mod checksum; // checksum.rt: the checksum of a run of bytes
 mod decodings; // decodings.rt: a case's tables decoded from all sets of k nodes
@@ -7,7 +8,7 @@ mod line; // line.rt: a line of text
 mod sets; // sets.rt: sets of nodes as numbers
 
 // The sizes of a case: k data nodes of n, and blocks of b bytes.
-#[derive(Drop)]
+#[derive(Clone, Copy)]
 struct Sizes {
     k: usize,
     n: usize,

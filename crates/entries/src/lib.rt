@@ -1,5 +1,6 @@
 // What the lists of a stripe are made of: write ids, entries, a node's list of entries, a client's list of ids.
 // The types are here; their methods, each with self by value, are in a file for each list.
+#![tactic(auto)]
 mod node_entries; // node_entries.rt: an entry, a node's list of entries
 mod write_ids; // write_ids.rt: a write id, a client's list of ids
 
@@ -7,15 +8,15 @@ ghost use Rattle.std.specs.Prelude.{◌≡◌};
 ghost use Rattle.entries.specs.Entries.{is_up_to};
 
 // A client's count of its writes.
-#[derive(Drop)]
+#[derive(Clone, Copy)]
 pub struct WriteNumber(pub u32);
 
 // A node's count of the rebuilds that it went through.
-#[derive(Drop)]
+#[derive(Clone, Copy)]
 pub struct Epoch(pub u32);
 
 // How many ticks an entry has seen while it was recent, 255 at most.
-#[derive(Drop)]
+#[derive(Clone, Copy)]
 pub struct Age(pub u8);
 
 impl WriteNumber {
@@ -29,27 +30,27 @@ impl Age {
     pub const DUE: u8 = 64;
 }
 
-#[derive(Drop)]
+#[derive(Clone, Copy)]
 pub struct WriteId {
     pub client: u8,
     pub position: u8,
     pub number: WriteNumber,
 }
 
-#[derive(Drop)]
+#[derive(Clone, Copy)]
 pub enum Previous {
     Nothing,
     Id(WriteId),
 }
 
-#[derive(Drop)]
+#[derive(Clone, Copy)]
 pub enum Mark {
     Recent,
     Old,
 }
 
 // A write id, its mark and its age, in eight bytes.
-#[derive(Drop)]
+#[derive(Clone, Copy)]
 pub struct Entry {
     pub number: WriteNumber,
     pub client: u8,
@@ -63,7 +64,7 @@ impl Entries {
 }
 
 // A node's entries in order of arrival: the first count items.
-#[derive(Drop)]
+#[derive(Clone, Copy)]
 pub struct Entries {
     pub items: [Entry; Entries::LIMIT],
     pub count: usize,
@@ -74,7 +75,7 @@ impl Ids {
 }
 
 // A client's list of ids: the first count items.
-#[derive(Drop)]
+#[derive(Clone, Copy)]
 pub struct Ids {
     pub items: [WriteId; Ids::LIMIT],
     pub count: usize,

@@ -7,7 +7,7 @@ ghost use Rattle.entries.specs.View.{ids_of, entry_of, entries_of};
 use crate::{Age, Entries, Entry, Ids, Mark, Previous, WriteId};
 
 // What is asked of an entry.
-#[derive(Drop)]
+#[derive(Clone, Copy)]
 pub enum EntryTest {
     Of(WriteId),
     RecentOf(WriteId),
@@ -16,7 +16,7 @@ pub enum EntryTest {
 }
 
 // What a call does to each entry of a list, by a list of ids.
-#[derive(Drop)]
+#[derive(Clone, Copy)]
 pub enum EntryChange {
     Mark,
     Discard,

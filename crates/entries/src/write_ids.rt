@@ -7,7 +7,7 @@ ghost use Rattle.entries.specs.View.{ids_of};
 use crate::{Ids, Previous, WriteId, WriteNumber, is_up_to};
 
 // What is asked of an id: whether it is that one; whether it is outside the limits of k positions and m clients.
-#[derive(Drop)]
+#[derive(Clone, Copy)]
 pub enum IdTest {
     Is(WriteId),
     Outside(usize, usize),

@@ -1,10 +1,11 @@
 // The redundant nodes of a stripe in groups (change request C-16): a node is added to only when all nodes of the earlier groups were.
+#![tactic(auto)]
 ghost use Rattle.std.specs.Prelude.{cond, ◌&&◌, [], ◌∷◌, ◌++◌, ◌≡◌, ℕ, ◌+◌, ◌≤◌, leb, get_or};
 ghost use Rattle.groups.specs.Groups.{group_limit, total, groups_fit, earlier_nodes};
 ghost use Rattle.groups.specs.View.{group_sizes, groups_of, one_group, impossible, kept};
 
 // Bit g - 1 of eight says whether the g-th redundant node is the last of its group; seen as the groups' sizes (group_sizes).
-#[derive(Drop)]
+#[derive(Clone, Copy)]
 pub struct Groups {
     ends: usize,
 }

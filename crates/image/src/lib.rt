@@ -1,4 +1,5 @@
 // The image of a stripe (docs/IMAGE.md). What it is, and what is proved of it, are in specs and proofs; here is where its sections begin, and its length.
+#![tactic(auto)]
 ghost use Rattle.std.specs.Prelude.{true, ◌≡◌, ◌*◌, ◌≤◌};
 ghost use Rattle.records.specs.Sizes.{node_limit, block_limit, sizes_within};
 ghost use Rattle.image.specs.Places.{length_by, places_of};
@@ -18,7 +19,7 @@ pub const CLIENT: usize = 135;
 pub const MOST: usize = 183_884;
 
 // Where the sections after the node records begin, and where the image ends. The node records follow the header and the sizes.
-#[derive(Drop)]
+#[derive(Clone, Copy)]
 pub struct Places {
     pub clients: usize,
     pub blocks: usize,

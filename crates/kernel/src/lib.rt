@@ -3,6 +3,7 @@
 // It goes over tiles of 256 bytes. Of each tile the 16 sums of each group of four sources are made once; then each block of the result goes over
 // the bits of its weights from the highest down: the sum so far is doubled, and for each group the one sum is added that the bit chooses. So
 // there is no product of two bytes in it, and every block adds three sums for each bit, whatever the weights.
+#![tactic(auto)]
 ghost use Rattle.std.specs.Prelude.{◌≡◌, ℕ, ◌+◌, ◌*◌, ◌≤◌, ◌<◌, length, get_or};
 ghost use Rattle.blocks.specs.Blocks.{table, block};
 ghost use Rattle.kernel.specs.Combine.{source_limit, length_limit, mixed, HasBlocks, Rows, Nodes};

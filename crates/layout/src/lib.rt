@@ -1,11 +1,12 @@
 // Where a volume's blocks are: the stripe and the position of a block, the card of a node, the node on a card.
+#![tactic(auto)]
 ghost use Rattle.std.specs.Prelude.{◌≡◌};
 ghost use Rattle.layout.specs.Layout.{home_of, is_one_of, card_for, node_for};
 
 use code::{Limits, NodeSet};
 
 // A position of a stripe; stripes are counted from 0, positions from 1.
-#[derive(Drop)]
+#[derive(Clone, Copy)]
 pub struct Home {
     pub stripe: usize,
     pub position: u8,

@@ -1,4 +1,5 @@
 // Document 01, "Rebuild": pick, which looks at all node records by value and decodes the spare from the set that it takes.
+#![tactic(auto)]
 mod picks; // picks.rt: pick
 
 use calls::Answer;
@@ -7,7 +8,7 @@ use records::ClientRecord;
 use stripe::Change;
 
 // What a pick hands back: no node's record changes but by the change.
-#[derive(Drop)]
+#[derive(Clone, Copy)]
 pub struct Picked {
     pub answer: Answer,
     pub client: ClientRecord,

@@ -1,4 +1,5 @@
 // The planning call (change request C-16): how large groups of redundant nodes may be, for so many stopped clients.
+#![tactic(auto)]
 ghost use Rattle.std.specs.Prelude.{◌≡◌, ◌≤◌, ◌<◌};
 ghost use Rattle.std.proofs.Math.IntN.{sub_ℕ};
 ghost use Rattle.planning.specs.Planning.{redundant_limit, stop_limit, serial_limit, every_at_most, plan_of, plan_number};
@@ -6,7 +7,7 @@ ghost use Rattle.planning.specs.Planning.{redundant_limit, stop_limit, serial_li
 use groups::Groups;
 
 // What the planning call answers.
-#[derive(Drop)]
+#[derive(Clone, Copy)]
 pub enum PlanAnswer {
     // The sizes or the number of stopped clients are outside the limits.
     OutOfLimits,

@@ -18,7 +18,7 @@ const STOPS: u8 = 2;
 const SIZES_KEPT: usize = 7;
 
 // What the line has come to: its field, the number there, and n-k and the sizes before that.
-#[derive(Drop)]
+#[derive(Clone, Copy)]
 pub struct Reader {
     redundant: u8,
     sizes: [u8; 7],

@@ -1,5 +1,6 @@
 // The records of a stripe: nodes and clients, the sizes, the families of calls, and the refusals with their numbers.
 // The types are here; their methods, each with self by value, are in a file for each record.
+#![tactic(auto)]
 mod client; // client.rt: a client's record, its write in hand, its rebuild
 mod node; // node.rt: a node's record and its calls
 mod ranges; // ranges.rt: the ranges of numbers, the limits of the sizes
@@ -10,14 +11,14 @@ ghost use Rattle.records.specs.Refusals.{number_of, returned_with};
 use code::NodeSet;
 use entries::{Entries, Epoch, Ids, Previous, WriteId, WriteNumber};
 
-#[derive(Drop)]
+#[derive(Clone, Copy)]
 pub enum Opmode {
     Norm,
     Recons,
     Init,
 }
 
-#[derive(Drop)]
+#[derive(Clone, Copy)]
 pub enum Lmode {
     Unl,
     L0,
@@ -25,14 +26,14 @@ pub enum Lmode {
     Exp,
 }
 
-#[derive(Drop)]
+#[derive(Clone, Copy)]
 pub enum Holder {
     Nobody,
     Client(u8),
 }
 
 // A node but for its block, which is in the block table.
-#[derive(Drop)]
+#[derive(Clone, Copy)]
 pub struct NodeRecord {
     pub opmode: Opmode,
     pub lmode: Lmode,
@@ -43,7 +44,7 @@ pub struct NodeRecord {
 }
 
 // What a client knows of its write in hand, but for the difference.
-#[derive(Drop)]
+#[derive(Clone, Copy)]
 pub struct Write {
     pub id: WriteId,
     pub previous: Previous,
@@ -51,7 +52,7 @@ pub struct Write {
     pub done: NodeSet,
 }
 
-#[derive(Drop)]
+#[derive(Clone, Copy)]
 pub enum Hand {
     Empty,
     Holding(Write),
@@ -59,7 +60,7 @@ pub enum Hand {
 
 // How far a rebuild is: how many nodes are locked, and which of them were EXP; the lowest node not tightened since the weaken, 0 if there is
 // none; from then on the next node of the phase, with the set picked and E for as long as they are needed.
-#[derive(Drop)]
+#[derive(Clone, Copy)]
 pub enum Phase {
     NoRebuild,
     Locking(u8, NodeSet),
@@ -70,7 +71,7 @@ pub enum Phase {
 }
 
 // A client but for its difference, which is in the table of differences.
-#[derive(Drop)]
+#[derive(Clone, Copy)]
 pub struct ClientRecord {
     pub hand: Hand,
     pub phase: Phase,
@@ -81,7 +82,7 @@ pub struct ClientRecord {
 }
 
 // k data nodes of n, blocks of b bytes, failures planned for (t_d), m clients.
-#[derive(Drop)]
+#[derive(Clone, Copy)]
 pub struct Sizes {
     pub k: usize,
     pub n: usize,
@@ -91,14 +92,14 @@ pub struct Sizes {
 }
 
 // A client's calls at a node that they name, swap aside, which has bytes.
-#[derive(Drop)]
+#[derive(Clone, Copy)]
 pub enum NodeCall {
     Add,
     Check,
 }
 
 // A client's calls that name nothing else, pick aside, which looks at every record.
-#[derive(Drop)]
+#[derive(Clone, Copy)]
 pub enum ClientCall {
     Drop,
     Sweep,
@@ -113,14 +114,14 @@ pub enum ClientCall {
 }
 
 // Where the block lies that a read shows: in the live table, or in the spare of a rebuild.
-#[derive(Drop)]
+#[derive(Clone, Copy)]
 pub enum Source {
     Live,
     Spare,
 }
 
 // Why a call is refused.
-#[derive(Drop)]
+#[derive(Clone, Copy)]
 pub enum Refusal {
     OutOfLimits,
     OutOfRange,
@@ -137,7 +138,7 @@ pub enum Refusal {
 }
 
 // What a call returns with a refusal.
-#[derive(Drop)]
+#[derive(Clone, Copy)]
 pub enum Returned {
     Nothing,
     Modes(Opmode, Lmode),
@@ -146,21 +147,21 @@ pub enum Returned {
     SetSize(u8),
 }
 
-#[derive(Drop)]
+#[derive(Clone, Copy)]
 pub enum NodeAnswer {
     Accepted,
     Refused(Refusal),
 }
 
 // A node's answer, and its record after the call.
-#[derive(Drop)]
+#[derive(Clone, Copy)]
 pub struct NodeStep {
     pub answer: NodeAnswer,
     pub node: NodeRecord,
 }
 
 // What a node tells of a write whose id it was sent: no recent entry; one, and the previous id is recent no more; no change.
-#[derive(Drop)]
+#[derive(Clone, Copy)]
 pub enum CheckAnswer {
     Init,
     Gc,
@@ -168,14 +169,14 @@ pub enum CheckAnswer {
 }
 
 // That answer, and the node's record after the call.
-#[derive(Drop)]
+#[derive(Clone, Copy)]
 pub struct CheckStep {
     pub answer: CheckAnswer,
     pub node: NodeRecord,
 }
 
 // What a call that asks is told: by a check; whether a node is due.
-#[derive(Drop)]
+#[derive(Clone, Copy)]
 pub enum Finding {
     Check(CheckAnswer),
     Due(bool),

@@ -1,5 +1,6 @@
 // A volume's call on its way to its stripes: the volume's own tests, the stripes that the call goes to, what it is in each of them, and the part of each
 // table that is the stripe's own. All by value; the tables are in crate volumeshelf.
+#![tactic(auto)]
 mod reads; // reads.rt: a read on its way to its stripe
 mod walks; // walks.rt: a call on its way over the stripes
 
@@ -7,14 +8,14 @@ use calls::{Answer, StepCall};
 use tables::Volume;
 
 // Every call but read. Of the calls that step a record a stop and a failure are of every stripe, and the number in a failure is that of a card.
-#[derive(Drop)]
+#[derive(Clone, Copy)]
 pub enum VolumeCall {
     Pick(u8),
     Step(StepCall),
 }
 
 // A call of a stripe, counted from 0. The bytes of a swap or a card's failure are beside it.
-#[derive(Drop)]
+#[derive(Clone, Copy)]
 pub struct Request {
     pub volume: Volume,
     pub stripe: usize,
@@ -22,7 +23,7 @@ pub struct Request {
 }
 
 // The read of position i of a stripe.
-#[derive(Drop)]
+#[derive(Clone, Copy)]
 pub struct ReadRequest {
     pub volume: Volume,
     pub stripe: usize,
@@ -30,7 +31,7 @@ pub struct ReadRequest {
 }
 
 // The same, with the lengths of the blocks and the spare.
-#[derive(Drop)]
+#[derive(Clone, Copy)]
 pub struct SizedRead {
     pub volume: Volume,
     pub stripe: usize,
@@ -41,7 +42,7 @@ pub struct SizedRead {
 
 // A call on its way: it goes to the stripes from `at` on and before `end`. The answer is the last one's; before any, Accepted; and a refusal of the
 // volume's own, which goes to none.
-#[derive(Drop)]
+#[derive(Clone, Copy)]
 pub struct Walk {
     pub volume: Volume,
     pub call: VolumeCall,
@@ -51,7 +52,7 @@ pub struct Walk {
 }
 
 // A read on its way to its stripe; or it goes to none, with a refusal of the volume's own.
-#[derive(Drop)]
+#[derive(Clone, Copy)]
 pub struct ReadWalk {
     pub volume: Volume,
     pub i: u8,

@@ -12,14 +12,14 @@ use records::{ClientCall, NodeCall};
 const SPACE: u8 = b' ';
 
 // The call of a line, numbers clipped at 255; beside a swap or a failure the count of the value's bytes, else 0.
-#[derive(Drop)]
+#[derive(Clone, Copy)]
 pub enum Line {
     Unreadable,
     Play(Call, usize),
 }
 
 // The field of a number, so far. It is clipped at a million, which is more than any number that a program has use for.
-#[derive(Drop)]
+#[derive(Clone, Copy)]
 pub enum Number {
     Empty,
     Digits(u32),
@@ -27,7 +27,7 @@ pub enum Number {
 }
 
 // The field of a value, so far: whole bytes, or a first digit besides.
-#[derive(Drop)]
+#[derive(Clone, Copy)]
 pub enum Hex {
     Whole,
     Half(u8),
@@ -35,14 +35,14 @@ pub enum Hex {
 }
 
 // The call whose value is read.
-#[derive(Drop)]
+#[derive(Clone, Copy)]
 pub enum Target {
     Fail(u8),
     Swap(u8, u8),
 }
 
 // A line so far, by the field that it has come to, with the letter, the numbers before, and how many bytes of the value there are.
-#[derive(Drop)]
+#[derive(Clone, Copy)]
 pub enum LineReader {
     Unreadable,
     Start,

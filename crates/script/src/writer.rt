@@ -5,7 +5,7 @@ ghost use Rattle.script.specs.Writing.{Put};
 
 // The longest line has 53 bytes: numbers of 20 digits, an event of 7 letters, a byte, three spaces and the end of the line.
 
-#[derive(Drop)]
+#[derive(Clone, Copy)]
 pub enum Event {
     Swapped,
     Added,
@@ -14,7 +14,7 @@ pub enum Event {
     None,
 }
 
-#[derive(Drop)]
+#[derive(Clone, Copy)]
 pub enum Shown {
     Nothing,
     Byte(u8),

@@ -21,6 +21,7 @@
 //
 // The toolchain walks no function over a slice of structs by itself. So the functions of table.rt and entry.rt do nothing else, and each form is walked once,
 // as a law of the crate lent. All the rest is by value, in crate taking.
+#![tactic(auto)]
 mod entry; // entry.rt: the entry points
 mod table; // table.rt: the loops over the tables
 

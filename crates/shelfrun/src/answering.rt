@@ -20,7 +20,7 @@ use script::writer::{Event, Shown};
 use step::Stripe;
 
 // The records after a line, and how long its output is.
-#[derive(Drop)]
+#[derive(Clone, Copy)]
 pub struct Answered {
     pub stripe: Stripe,
     pub end: usize,

@@ -15,7 +15,7 @@ const LF: u8 = b'\n';
 
 // What is kept from byte to byte: how many lines were answered, whether a line has begun, what it is so far, with the byte of its value, and the
 // records.
-#[derive(Drop)]
+#[derive(Clone, Copy)]
 pub struct Shelf {
     pub lines: u64,
     pub begun: bool,
@@ -25,7 +25,7 @@ pub struct Shelf {
 }
 
 // The shelf after some bytes, and how long their output is.
-#[derive(Drop)]
+#[derive(Clone, Copy)]
 pub struct Fed {
     pub shelf: Shelf,
     pub end: usize,

@@ -1,4 +1,5 @@
 // The program shelfrun of document 01: a line of output for each line of standard input.
+#![tactic(auto)]
 mod answering; // answering.rt: a line answered
 mod feeding; // feeding.rt: the bytes of the input, one after the other
 mod words; // words.rt: the words of an answer
@@ -11,7 +12,7 @@ use feeding::Shelf;
 use libc::{STDIN_FILENO, STDOUT_FILENO};
 
 // How many bytes were read, the shelf after them, and how long their output is.
-#[derive(Drop)]
+#[derive(Clone, Copy)]
 struct Passed {
     read: usize,
     shelf: Shelf,
@@ -47,7 +48,7 @@ fn pass(
 }
 
 // The shelf after all that was read, and whether the output took all that was printed.
-#[derive(Drop)]
+#[derive(Clone, Copy)]
 struct Ran {
     shelf: Shelf,
     written: bool,

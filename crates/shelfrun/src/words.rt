@@ -12,7 +12,7 @@ use calls::{Answer, Call, StepCall, shown_part};
 use records::{ClientCall, NodeCall};
 use script::writer::{Event, Shown};
 
-#[derive(Drop)]
+#[derive(Clone, Copy)]
 pub struct Words {
     pub event: Event,
     pub shown: Shown,

@@ -10,7 +10,7 @@ ghost use Rattle.step.specs.View.{clients_of};
 use records::{ClientRecord, Sizes};
 
 // Client c is item c - 1; a stripe of m clients has the first m items.
-#[derive(Drop)]
+#[derive(Clone, Copy)]
 pub struct Clients {
     pub items: [ClientRecord; Sizes::CLIENTS],
 }

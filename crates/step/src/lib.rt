@@ -1,5 +1,6 @@
 // A stripe's calls as one: every call but read and pick as a step of one node's record and of its client's, and any call on a stripe by value, whose
 // contract is the machine's step; a read also with the part that it shows.
+#![tactic(auto)]
 mod clients; // clients.rt: the records of all clients
 mod nodes; // nodes.rt: one node of a stripe, or the failed one where there is none
 mod plays; // plays.rt: any call on a stripe by value
@@ -17,14 +18,14 @@ pub use steps::step;
 use stripe::Nodes;
 
 // The records of a stripe of n nodes and m clients: the first n of the nodes, the first m of the clients. The tables are beside it.
-#[derive(Drop)]
+#[derive(Clone, Copy)]
 pub struct Stripe {
     pub nodes: Nodes,
     pub clients: Clients,
 }
 
 // The answer, and the records after the call.
-#[derive(Drop)]
+#[derive(Clone, Copy)]
 pub struct Played {
     pub answer: Answer,
     pub stripe: Stripe,

@@ -9,26 +9,26 @@ pub const LF: u8 = b'\n';
 pub const TURNS: u64 = u64::MAX;
 
 // The bytes of the buffer that were read and not yet taken: from `at` on, before `end`.
-#[derive(Drop)]
+#[derive(Clone, Copy)]
 pub struct Input {
     at: usize,
     end: usize,
 }
 
-#[derive(Drop)]
+#[derive(Clone, Copy)]
 pub enum Next {
     End,
     Byte(u8, Input),
 }
 
 // What was read of the first line, and the input after it.
-#[derive(Drop)]
+#[derive(Clone, Copy)]
 pub struct First {
     pub reader: SizesReader,
     pub input: Input,
 }
 
-#[derive(Drop)]
+#[derive(Clone, Copy)]
 enum Passed {
     End,
     Line(Input),

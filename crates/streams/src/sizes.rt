@@ -6,7 +6,7 @@ use records::Sizes;
 const SPACE: u8 = b' ';
 
 // The numbers so far, clipped; the field that the line has come to, whether it is empty, and whether the line is unreadable.
-#[derive(Drop)]
+#[derive(Clone, Copy)]
 pub struct SizesReader {
     numbers: [usize; 6],
     field: usize,
@@ -15,7 +15,7 @@ pub struct SizesReader {
 }
 
 // So many stripes of these sizes.
-#[derive(Drop)]
+#[derive(Clone, Copy)]
 pub struct VolumeSizes {
     pub stripes: usize,
     pub z: Sizes,

@@ -15,13 +15,13 @@ use entries::{Epoch, WriteId};
 use records::{NodeRecord, Sizes};
 
 // Node j is item j - 1; a stripe of n nodes has the first n items.
-#[derive(Drop)]
+#[derive(Clone, Copy)]
 pub struct Nodes {
     pub items: [NodeRecord; Sizes::NODES],
 }
 
 // What is asked of a node.
-#[derive(Drop)]
+#[derive(Clone, Copy)]
 pub enum NodeTest {
     Outside(Sizes),
     NotHeldAtL1(u8),

@@ -10,7 +10,7 @@ use records::{Lmode, NodeRecord, Sizes};
 
 // Of all n nodes: whether there are n records, each within the limits; whether each is held by the client; whether each is held by it at L1; whether
 // some is RECONS.
-#[derive(Drop)]
+#[derive(Clone, Copy)]
 pub struct Seen {
     pub within: bool,
     pub held: bool,
@@ -20,7 +20,7 @@ pub struct Seen {
 
 // What becomes of the other nodes: nothing; all that c held becomes EXP; of nodes 1 to x those that c still holds get their old lmode, EXP if in
 // the set, else UNL; the nodes after x go to L0 for c; each recent entry is one older.
-#[derive(Drop)]
+#[derive(Clone, Copy)]
 pub enum Change {
     Keep,
     Expire(u8),

@@ -19,14 +19,14 @@ use entries::{Entries, Entry, WriteId, WriteNumber};
 use records::{NodeRecord, Opmode, Sizes};
 
 // Recent ids of a node, without those that are old at a NORM node: the first count items.
-#[derive(Drop)]
+#[derive(Clone, Copy)]
 pub struct RecentIds {
     pub items: [WriteId; Entries::LIMIT],
     pub count: usize,
 }
 
 // The recent ids of every node: those of node j are item j - 1.
-#[derive(Drop)]
+#[derive(Clone, Copy)]
 pub struct Recents {
     pub items: [RecentIds; Sizes::NODES],
 }

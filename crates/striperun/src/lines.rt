@@ -14,7 +14,7 @@ use streams::input::{Input, TURNS};
 use streams::output::flush;
 
 // The records, and the place in the output, after a line.
-#[derive(Drop)]
+#[derive(Clone, Copy)]
 struct State {
     stripe: Stripe,
     at: usize,

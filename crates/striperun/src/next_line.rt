@@ -3,21 +3,21 @@ use script::reader::{Line, LineReader};
 use streams::input::{Input, LF, Next, TURNS};
 
 // What a line asks for: a call, or the image of the stripe, `M`, which is no call of the machine.
-#[derive(Drop)]
+#[derive(Clone, Copy)]
 pub enum Order {
     Call(Line),
     Image,
 }
 
 // An order, and the input after it.
-#[derive(Drop)]
+#[derive(Clone, Copy)]
 pub enum Taken {
     End,
     Line(Order, Input),
 }
 
 // What a line is so far: without a byte, M alone, or anything else.
-#[derive(Drop)]
+#[derive(Clone, Copy)]
 enum Begun {
     Nothing,
     M,

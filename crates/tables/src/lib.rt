@@ -1,19 +1,20 @@
 // A volume's tables: its limits, the lengths of its tables, the part of each that is a stripe's own, and fresh ones. All by value; the calls on the tables
 // are in crate volumeshelf.
+#![tactic(auto)]
 mod volumes; // volumes.rt: a volume's tables, and the parts of its stripes
 
 use records::Sizes;
 pub use volumes::{part_from, part_to, stripe_part, table_blocks, table_differences};
 
 // So many stripes of these sizes.
-#[derive(Drop)]
+#[derive(Clone, Copy)]
 pub struct Volume {
     pub stripes: usize,
     pub z: Sizes,
 }
 
 // The lengths of a volume's tables, and of the bytes that are given with a card's failure.
-#[derive(Drop)]
+#[derive(Clone, Copy)]
 pub struct Lengths {
     pub nodes: usize,
     pub clients: usize,
@@ -23,7 +24,7 @@ pub struct Lengths {
 }
 
 // Whether the tables that are to be made fresh have their lengths.
-#[derive(Drop)]
+#[derive(Clone, Copy)]
 pub struct Renewal {
     pub fits: bool,
 }

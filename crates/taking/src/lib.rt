@@ -1,4 +1,5 @@
 // A call on the records that were taken out of their tables: what is looked for, the step by value, what is put back. The tables are in crate shelf.
+#![tactic(auto)]
 mod images; // images.rt: an image, of the records of all nodes and all clients
 mod picks; // picks.rt: a pick, on the records of all nodes
 mod reads; // reads.rt: a read, on the records that it goes by
@@ -11,21 +12,21 @@ use step::Clients;
 use stripe::{Change, Nodes, Seen};
 
 // Every call but read and pick. The bytes of a swap or a failure are beside it.
-#[derive(Drop)]
+#[derive(Clone, Copy)]
 pub struct Request {
     pub z: Sizes,
     pub call: StepCall,
 }
 
 // The read of position i.
-#[derive(Drop)]
+#[derive(Clone, Copy)]
 pub struct ReadRequest {
     pub z: Sizes,
     pub i: u8,
 }
 
 // The same, with the lengths of the blocks and the spare.
-#[derive(Drop)]
+#[derive(Clone, Copy)]
 pub struct SizedRead {
     pub z: Sizes,
     pub i: u8,
@@ -34,14 +35,14 @@ pub struct SizedRead {
 }
 
 // The pick of client c.
-#[derive(Drop)]
+#[derive(Clone, Copy)]
 pub struct PickRequest {
     pub z: Sizes,
     pub c: u8,
 }
 
 // Client c's record, out of a table of `len`; a fresh one if it is not there.
-#[derive(Drop)]
+#[derive(Clone, Copy)]
 pub struct TakenClient {
     pub c: u8,
     pub len: usize,
@@ -49,7 +50,7 @@ pub struct TakenClient {
 }
 
 // Node j is looked for, and all nodes are looked at for client c if `all`.
-#[derive(Drop)]
+#[derive(Clone, Copy)]
 pub struct Sought {
     pub z: Sizes,
     pub c: u8,
@@ -58,7 +59,7 @@ pub struct Sought {
 }
 
 // What was seen of all nodes, in a table of `len`.
-#[derive(Drop)]
+#[derive(Clone, Copy)]
 pub struct Looked {
     pub sought: Sought,
     pub len: usize,
@@ -66,7 +67,7 @@ pub struct Looked {
 }
 
 // The record of the node too, out of a table of `len`; that of a failed node if it is not there.
-#[derive(Drop)]
+#[derive(Clone, Copy)]
 pub struct Found {
     pub looked: Looked,
     pub len: usize,
@@ -74,14 +75,14 @@ pub struct Found {
 }
 
 // All records of a table of `len`, if they are 18 at most.
-#[derive(Drop)]
+#[derive(Clone, Copy)]
 pub struct AllTaken {
     pub len: usize,
     pub nodes: Nodes,
 }
 
 // All records of a table of `len` clients too, if they are 8 at most.
-#[derive(Drop)]
+#[derive(Clone, Copy)]
 pub struct AllRecords {
     pub len: usize,
     pub clients: Clients,
@@ -89,21 +90,21 @@ pub struct AllRecords {
 }
 
 // Node j's record, which is put back.
-#[derive(Drop)]
+#[derive(Clone, Copy)]
 pub struct Back {
     pub j: usize,
     pub node: NodeRecord,
 }
 
 // What becomes of the other nodes, in a table of `len`.
-#[derive(Drop)]
+#[derive(Clone, Copy)]
 pub struct Others {
     pub len: usize,
     pub change: Change,
 }
 
 // What a call hands back.
-#[derive(Drop)]
+#[derive(Clone, Copy)]
 pub struct Returned {
     pub back: Back,
     pub others: Others,

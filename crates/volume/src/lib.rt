@@ -1,1 +1,2 @@
 // A volume of many stripes: definitions and theorems alone.
+#![tactic(auto)]

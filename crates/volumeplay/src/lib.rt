@@ -2,6 +2,7 @@
 //
 // The records of all nodes and clients are local arrays of one function, which plays the lines (entry.rt): the toolchain walks no function over a slice of
 // structs by itself, so this function and those that it lends the records to do nothing else, and each is walked by a law. All the rest is by value.
+#![tactic(auto)]
 mod asking; // asking.rt: what a turn asks of the volume, and of which part of the tables
 pub mod entry; // entry.rt: the lines of a script, one after the other, on the volume's tables
 mod show; // show.rt: what is printed of a line
@@ -19,7 +20,7 @@ pub const NODES: usize = 18 * 1024;
 pub const CLIENTS: usize = 8 * 1024;
 
 // A script that is played: how many turns are left, which no run uses up; the volume; the input, and the place in the output.
-#[derive(Drop)]
+#[derive(Clone, Copy)]
 pub struct Player {
     pub left: u64,
     pub volume: Volume,
@@ -28,7 +29,7 @@ pub struct Player {
 }
 
 // A turn: the next line, or the end of the input.
-#[derive(Drop)]
+#[derive(Clone, Copy)]
 pub struct Turn {
     pub player: Player,
     pub line: VolumeLine,

@@ -6,7 +6,7 @@ use streams::input::{Input, LF, Next, TURNS};
 use volumescript::reader::{VolumeLine, VolumeReader};
 
 // A line, and the input after it.
-#[derive(Drop)]
+#[derive(Clone, Copy)]
 pub enum Taken {
     End,
     Line(VolumeLine, Input),

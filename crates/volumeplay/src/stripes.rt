@@ -10,14 +10,14 @@ use tables::{part_from, part_to};
 use volumescript::looking::Looked;
 
 // The records from `first` on and before `end` of a table are the first of these.
-#[derive(Drop)]
+#[derive(Clone, Copy)]
 pub struct NodesTaken {
     pub first: usize,
     pub end: usize,
     pub nodes: Nodes,
 }
 
-#[derive(Drop)]
+#[derive(Clone, Copy)]
 pub struct ClientsTaken {
     pub first: usize,
     pub end: usize,

@@ -7,7 +7,7 @@ use crate::reader::VolumeLine;
 use calls::Call;
 
 // A stripe that is looked at, or none.
-#[derive(Drop)]
+#[derive(Clone, Copy)]
 pub enum Looked {
     None,
     Stripe(usize),

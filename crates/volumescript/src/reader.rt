@@ -14,7 +14,7 @@ const SPACE: u8 = b' ';
 
 // A line: a call of one stripe, a call of every stripe, a block that is read or swapped, a stripe that is shown. Numbers are clipped; beside a swap or a
 // failure is the count of the value's bytes, else 0.
-#[derive(Drop)]
+#[derive(Clone, Copy)]
 pub enum VolumeLine {
     Unreadable,
     One(usize, Call, usize),
@@ -25,7 +25,7 @@ pub enum VolumeLine {
 }
 
 // The words that a number follows: `?`, `RB`, `SB`.
-#[derive(Drop)]
+#[derive(Clone, Copy)]
 pub enum Word {
     Show,
     Read,
@@ -34,7 +34,7 @@ pub enum Word {
 
 // A line so far, by the field that it has come to: a word's first letter, a word; the number of a stripe, that after a word, that of a block after a
 // client's; the call of a stripe, that of every stripe, the value of a swap.
-#[derive(Drop)]
+#[derive(Clone, Copy)]
 pub enum VolumeReader {
     Unreadable,
     Start,
