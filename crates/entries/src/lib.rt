@@ -1,6 +1,7 @@
 // What the lists of a stripe are made of: write ids, entries, a node's list of entries, a client's list of ids.
 // The types are here; their methods, each with self by value, are in a file for each list.
 #![tactic(auto)]
+
 mod node_entries; // node_entries.rt: an entry, a node's list of entries
 mod write_ids; // write_ids.rt: a write id, a client's list of ids
 

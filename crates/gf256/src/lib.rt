@@ -1,6 +1,7 @@
 // GF(256), polynomial 0x11D: products and inverses by the tables of powers and logarithms. There is no test in them: what becomes of 0, which has
 // no logarithm, is arithmetic.
 #![tactic(auto)]
+
 ghost use Rattle.std.specs.Prelude.{◌≡◌, ◌≤◌, ◌<◌};
 ghost use Rattle.gf256.specs.Field;
 ghost use Rattle.gf256.specs.Field.{IsPowers, IsLogarithms};

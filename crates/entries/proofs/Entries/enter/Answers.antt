@@ -1,0 +1,6 @@
+-- One entry more. Assumes nothing.
+use borrow.Author.Rules.{rules}
+use Rattle.entries.proofs.Entries.enter.Goals as goal
+
+pub returns : goal.returns
+returns c = rw (c.push.ensures, c.new.ensures)

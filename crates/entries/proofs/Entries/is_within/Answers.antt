@@ -1,0 +1,14 @@
+-- By the test of the count, which is the list's length. Assumes nothing.
+use mathlib.Core.Bool.{not-not}
+use borrow.Author.Rules.{rules}
+use borrow.Author.Tests.{le-leb, lt-leb}
+use Rattle.entries.specs.Entries.{entry_limit}
+use Rattle.entries.proofs.Lists.{entries-count}
+use Rattle.entries.proofs.Entries.is_within.Goals as goal
+
+pub returns-then-self-le-LIMIT : goal.returns-then-self-le-LIMIT
+returns-then-self-le-LIMIT c = let s = c.args.self in
+    rw (entries-count s, le-leb s.count entry_limit c.if-self-le-LIMIT.true, c.some_outside.ensures) (not-not _)
+
+pub returns-else-self-le-LIMIT : goal.returns-else-self-le-LIMIT
+returns-else-self-le-LIMIT c = let s = c.args.self in rw (entries-count s, lt-leb s.count entry_limit c.if-self-le-LIMIT.false)

@@ -1,0 +1,21 @@
+-- No entry after the first i is recent. Assumes nothing.
+use mathlib.Core.Path.{sym, ap, ◌∙◌}
+use native.Mathlib.Omega.{arith}
+use lib.ListN.{get_or}
+use borrow.Author.Rules.{rules}
+use Rattle.entries.specs.declared.Previous.TheVariants.{Id}
+use Rattle.entries.specs.View.{entry_of, blank_entry}
+use Rattle.entries.proofs.Lists.{Lasting, last-start, last-hit, last_on, last_end}
+use Rattle.entries.proofs.Entries.last_recent.Goals as goal
+
+pub loop-i-init : goal.loop-i-init
+loop-i-init c = last-start
+
+pub returns-then-is_recent : goal.returns-then-is_recent
+returns-then-is_recent c = ap Id c.id.ensures ∙ last-hit c.loop-i.invariant (omega arith) (sym c.is_recent.ensures ∙ c.if-is_recent.true)
+
+pub loop-i-preserved : goal.loop-i-preserved
+loop-i-preserved c = last_on c.loop-i.invariant (omega arith) (sym c.is_recent.ensures ∙ c.if-is_recent.false)
+
+pub returns : goal.returns
+returns c = last_end c.loop-i.invariant (omega arith)

@@ -1,0 +1,21 @@
+-- A search: none of the first i ids passes the test. Assumes nothing.
+use Prim.Native.Nat.{◌-◌}
+use native.Mathlib.Omega.{arith}
+use lib.ListN.{get_or}
+use borrow.Author.Rules.{rules}
+use Rattle.entries.specs.Lists.{some_id_passes}
+use Rattle.entries.specs.View.{blank_id}
+use Rattle.entries.proofs.Lists.{Searched, ids-search, search-start, search-on, search-hit, search-end}
+use Rattle.entries.proofs.Ids.any.Goals as goal
+
+pub loop-i-init : goal.loop-i-init
+loop-i-init c = search-start (ids-search c.args.test)
+
+pub returns-then-passes : goal.returns-then-passes
+returns-then-passes c = search-hit (ids-search c.args.test) c.loop-i.invariant (omega arith) c.passes.ensures c.if-passes.true
+
+pub loop-i-preserved : goal.loop-i-preserved
+loop-i-preserved c = search-on (ids-search c.args.test) c.loop-i.invariant (omega arith) c.passes.ensures c.if-passes.false
+
+pub returns : goal.returns
+returns c = search-end c.loop-i.invariant (omega arith)
