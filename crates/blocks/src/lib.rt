@@ -1,5 +1,6 @@
 // Blocks of bytes, and one block of a table of blocks.
 #![tactic(auto)]
+
 pub mod doublings; // doublings.rt: products of one byte by many
 
 ghost use Rattle.std.specs.Prelude.{◌≡◌, ◌+◌, ◌-◌, ◌*◌, ◌≤◌, length, replicate};

@@ -6,7 +6,7 @@ pub mod Recover
 pub mod Invertible
 pub mod NodeSets
 pub mod Sizes
-pub mod Limits
+pub mod LimitLaws
 pub mod Bits
 pub mod Members
 pub mod SetBits

@@ -1,5 +1,6 @@
 // The redundant nodes of a stripe in groups (change request C-16): a node is added to only when all nodes of the earlier groups were.
 #![tactic(auto)]
+
 ghost use Rattle.std.specs.Prelude.{cond, ◌&&◌, [], ◌∷◌, ◌++◌, ◌≡◌, ℕ, ◌+◌, ◌≤◌, leb, get_or};
 ghost use Rattle.groups.specs.Groups.{group_limit, total, groups_fit, earlier_nodes};
 ghost use Rattle.groups.specs.View.{group_sizes, groups_of, one_group, impossible, kept};

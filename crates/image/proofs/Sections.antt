@@ -11,7 +11,7 @@ use Rattle.octets.specs.Octets.{word_at}
 use Rattle.octets.proofs.Pieces.{length-joined}
 use Rattle.basics.specs.Lists.{every_of}
 use Rattle.basics.proofs.Tests.{and_both}
-use Rattle.code.proofs.Limits.{small-table}
+use Rattle.code.proofs.LimitLaws.{small-table}
 use Rattle.machine.specs.Stripe.{Stripe, nodes_fit, blocks_fit, differences_fit}
 use Rattle.records.specs.declared.Sizes.{Sizes}
 use Rattle.records.specs.Client.{Client, fresh_client, client_within}

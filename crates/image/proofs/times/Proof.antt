@@ -1,7 +1,7 @@
 -- `image::times` meets its contract. Assumes nothing.
 use mathlib.Core.Path.{refl}
 use native.Mathlib.Omega.{arith}
-use Rattle.code.proofs.Limits.{small-table}
+use Rattle.code.proofs.LimitLaws.{small-table}
 use Rattle.image.proofs.times.Statement.{statement}
 use Rattle.image.proofs.times.Tie as tie
 

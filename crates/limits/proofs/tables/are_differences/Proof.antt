@@ -1,7 +1,7 @@
 -- Within the limits the product fits. Assumes nothing.
 use native.Mathlib.Omega.{arith}
 use borrow.Author.Rules.{rules}
-use Rattle.code.proofs.Limits.{small-table}
+use Rattle.code.proofs.LimitLaws.{small-table}
 use Rattle.limits.proofs.Limits.{code-sizes, clients-few}
 use Rattle.limits.proofs.tables.are_differences.Statement.{statement}
 use Rattle.limits.proofs.tables.are_differences.Tie as tie

@@ -4,7 +4,7 @@ use mathlib.Core.Bool.{◌&&◌, not, or-true, or-false}
 use native.Mathlib.Omega.{arith}
 use borrow.Author.Rules.{rules}
 use borrow.Author.Tests.{eq-eqb, ne_eqb, not-true, not-false}
-use Rattle.code.proofs.Limits.{small-table}
+use Rattle.code.proofs.LimitLaws.{small-table}
 use Rattle.machine.proofs.CodeLaws.{sizes}
 use Rattle.records.specs.Sizes.{sizes_within}
 use Rattle.records.specs.Client.{client_within}

@@ -2,7 +2,7 @@
 use mathlib.Core.Path.{sym}
 use native.Mathlib.Omega.{arith}
 use borrow.Author.Rules.{rules}
-use Rattle.code.proofs.Limits.{sizes-fit, sizes-unfit}
+use Rattle.code.proofs.LimitLaws.{sizes-fit, sizes-unfit}
 use Rattle.code.proofs.ranges.Limits.hold.Statement.{statement}
 use Rattle.code.proofs.ranges.Limits.hold.Tie as tie
 

@@ -7,14 +7,9 @@ use borrow.Author.Rules.{rules}
 use Rattle.groups.specs.Groups.{groups_fit}
 use Rattle.groups.specs.View.{group_sizes}
 use Rattle.groups.proofs.Ends.{fit_all}
-use Rattle.groups.proofs.Groups.fit.Statement.{statement}
-use Rattle.groups.proofs.Groups.fit.Tie as tie
+use Rattle.groups.proofs.Groups.fit.Goals as goal
 
-returns : tie.Need-returns
-returns c =
-    let a = c.before.args in
+pub returns : goal.returns
+returns c = let a = c.args in
     let back : a.redundant - 1 + 1 ≡ a.redundant = omega arith in
     fit_all a.self (a.redundant - 1) (omega arith) ∙ ap (λ r. groups_fit r (group_sizes a.self)) back
-
-pub fit_spec : {M : Type 1} → statement M
-fit_spec = tie.close (tie.spec (λ c. search rules) (λ c. search rules) returns)

@@ -7,21 +7,16 @@ use borrow.Author.Rules.{rules}
 use borrow.Author.Tests.{le-leb, lt-leb}
 use Rattle.groups.specs.View.{ends_of, groups_of}
 use Rattle.groups.proofs.Ends.{one_of}
-use Rattle.groups.proofs.Groups.one.Statement.{statement}
-use Rattle.groups.proofs.Groups.one.Tie as tie
+use Rattle.groups.proofs.Groups.one.Goals as goal
 
-returns : tie.Need-returns
+pub returns-then-size-eq0 : goal.returns-then-size-eq0
 unfolding ends_of
-returns c = rw c.before.if1.true c.none.ensures
+returns-then-size-eq0 c = rw c.if-size-eq0.true c.none.ensures
 
-returns-2 : tie.Need-returns-2
-returns-2 c = rw (lt-leb c.before.before.before.args.size 8 (omega arith)) c.none2.ensures
+pub returns-then-size-gt-ROOM : goal.returns-then-size-gt-ROOM
+returns-then-size-gt-ROOM c = rw (lt-leb c.args.size 8 (omega arith)) c.none-then-size-gt-ROOM.ensures
 
-returns-3 : tie.Need-returns-3
-returns-3 c =
-    let size = c.before.before.args.size in
+pub returns : goal.returns
+returns c = let size = c.args.size in
     let back : size - 1 + 1 ≡ size = omega arith in
     rw (le-leb size 8 (omega arith)) (λ i. record { ends = (sym (one_of (size - 1) (omega arith)) ∙ ap (λ x. ends_of (x ∷ [])) back) i })
-
-pub one_spec : {M : Type 1} → statement M
-one_spec = tie.close (tie.spec (λ c κs. search rules) returns (λ c κs. search rules) returns-2 (λ c. search rules) (λ c. search rules) returns-3)

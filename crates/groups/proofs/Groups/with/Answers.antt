@@ -11,32 +11,26 @@ use borrow.Author.Tests.{le-leb, lt-leb}
 use Rattle.groups.specs.Groups.{total}
 use Rattle.groups.specs.View.{group_sizes, sizes_from, impossible}
 use Rattle.groups.proofs.Ends.{with-of, impossible-of, seen, few-byte}
-use Rattle.groups.proofs.Groups.with.Statement.{statement}
-use Rattle.groups.proofs.Groups.with.Tie as tie
+use Rattle.groups.proofs.Groups.with.Goals as goal
 
-returns : tie.Need-returns
+pub returns-then-size-lt-LEAST : goal.returns-then-size-lt-LEAST
 unfolding group_sizes
-returns c = rw (lt-leb 1 c.before.args.size c.if1.true) impossible-of
+returns-then-size-lt-LEAST c = rw (lt-leb 1 c.args.size c.if-size-lt-LEAST.true) impossible-of
 
-returns-2 : tie.Need-returns-2
+pub returns-then-nodes-size : goal.returns-then-nodes-size
 unfolding group_sizes
-returns-2 c =
-    let a = c.before.before.before.args in
-    let n = c.before.nodes.ensures.0 in
+returns-then-nodes-size c = let a = c.args in
+    let n = c.nodes-nodes.ensures.0 in
     rw (le-leb 1 a.size (omega arith), lt-leb (total (group_sizes a.self) + a.size) 8 (omega arith)) impossible-of
 
-returns-3 : tie.Need-returns-3
-returns-3 c =
-    let a = c.before.before.before.before.args in
-    let n = c.before.before.nodes.ensures.0 in
+pub returns : goal.returns
+returns c = let a = c.args in
+    let n = c.nodes-nodes.ensures.0 in
     let e = a.self.ends in
     let small = few-byte a.self (omega arith) in
     let is = seen a.self small in
     let t = ap total is in
-    let last : c.before.before.nodes.result + a.size - 1 ≡ total (sizes_from 8 e 0) + (a.size - 1) = omega (arith, n, t) in
+    let last : c.nodes-nodes.result + a.size - 1 ≡ total (sizes_from 8 e 0) + (a.size - 1) = omega (arith, n, t) in
     let back : a.size - 1 + 1 ≡ a.size = omega arith in
     rw (le-leb 1 a.size (omega arith), le-leb (total (group_sizes a.self) + a.size) 8 (omega arith), last, is)
     (with-of e (a.size - 1) small (omega arith) (omega (arith, n, t)) ∙ ap (λ s. sizes_from 8 e 0 ++ (s ∷ [])) back)
-
-pub with-spec : {M : Type 1} → statement M
-with-spec = tie.close (tie.spec returns (λ c κs. search rules) (λ c. search rules) returns-2 (λ c. search rules) (λ c. search rules) (λ c. search rules) returns-3)

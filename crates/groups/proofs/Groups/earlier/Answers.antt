@@ -8,15 +8,16 @@ use borrow.Author.Rules.{rules}
 use Rattle.groups.specs.Groups.{total, earlier_nodes}
 use Rattle.groups.specs.View.{group_sizes, sizes_from}
 use Rattle.groups.proofs.Ends.{earlier-of, bit-of, seen, few-byte}
-use Rattle.groups.proofs.Groups.earlier.Statement.{statement}
-use Rattle.groups.proofs.Groups.earlier.Tie as tie
+use Rattle.groups.proofs.Groups.earlier.Goals as goal
 
-returns : tie.Need-returns
-returns c =
-    let a = c.before.before.args in
+pub nonzero_rem-before : goal.nonzero_rem-before
+nonzero_rem-before c = let j = c.args.j in omega (arith, bit-of (j - 1) (omega arith), pow_pos (j - 1))
+
+pub returns : goal.returns
+returns c = let a = c.args in
     let e = a.self.ends in
     let g = a.self in
-    let small = few-byte g (omega (arith, c.before.before.requires.2)) in
+    let small = few-byte g (omega (arith, c.requires.2)) in
     let back : a.j - 1 + 1 ≡ a.j = omega arith in
     let bit = bit-of (a.j - 1) (omega arith) in
     let low : e % (1 * 2 ^ (a.j - 1) % 2 ^ 64) < 256 = rw bit (omega (arith, mod-le e (2 ^ (a.j - 1)))) in
@@ -24,13 +25,3 @@ returns c =
     ∙ ap total (seen _ low)
     ∙ ap (λ p. total (sizes_from 8 (e % p) 0)) bit
     ∙ (earlier-of e (a.j - 1) small (omega arith) ∙ (ap (earlier_nodes (sizes_from 8 e 0)) back ∙ ap (λ sizes. earlier_nodes sizes a.j) (sym (seen g small))))
-
-pub earlier-spec : {M : Type 1} → statement M
-earlier-spec =
-    tie.close
-    (tie.spec
-    (λ c. search rules)
-    (λ c. search rules)
-    (λ c. let j = c.before.args.j in omega (arith, bit-of (j - 1) (omega arith), pow_pos (j - 1)))
-    (λ c κs. search rules)
-    returns)

@@ -1,0 +1,24 @@
+-- `blocks::add_times` meets its contract: after i turns dst has the first i bytes of the sum. Assumes nothing.
+use mathlib.Core.Path.{ap, ◌∙◌}
+use Prim.Native.Nat.{◌≤◌, ◌-◌}
+use native.Mathlib.Omega.{arith}
+use lib.ListN.{length, get_or}
+use borrow.Author.Rules.{rules}
+use Rattle.gf256.specs.Field.{product}
+use Rattle.blocks.specs.Blocks.{add_times}
+use Rattle.blocks.proofs.Fill.{Filled, filled_none, zip_turn, zip-all}
+use Rattle.blocks.proofs.add_times.Goals as goal
+
+pub loop-i-init : goal.loop-i-init
+loop-i-init c = (search rules, filled_none _ _)
+
+pub times-p-requires : goal.times-p-requires
+times-p-requires c = rw c.of-m.ensures
+
+pub loop-i-preserved : goal.loop-i-preserved
+loop-i-preserved c = let byte = get_or c.args.src.now c.loop-i.i 0 in
+    let times = c.times-p.ensures ∙ ap (λ m. product m.c0 byte) c.of-m.ensures in
+    (search rules, zip_turn _ _ _ _ _ _ (omega arith) (omega arith) c.loop-i.invariant.1 (rw times))
+
+pub returns : goal.returns
+returns c = zip-all _ _ _ _ _ (omega arith) c.loop-i.invariant.1

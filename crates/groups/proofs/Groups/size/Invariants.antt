@@ -1,0 +1,16 @@
+-- One bit at a time: what is left of the groups answers for the whole. Assumes nothing.
+use mathlib.Core.Path.{◌≡◌, refl, sym, ap, ◌∙◌}
+use mathlib.Core.Logic.{⊎_elim}
+use Prim.Native.Nat.{◌≤◌, ◌+◌}
+use native.Mathlib.Omega.{arith}
+use lib.ListN.{get_or}
+use borrow.Author.Rules.{rules}
+use Rattle.groups.specs.View.{group_sizes, sizes_from}
+use Rattle.groups.proofs.Ends.{size-here, size-next, size-on, size_none, seen, few-byte}
+use Rattle.groups.proofs.Groups.size.Given as goal
+
+abbrev pub invariant-loop-w : goal.invariant-loop-w
+invariant-loop-w l = (get_or (sizes_from l.w l.ends l.run) l.left 0 ≡ get_or (sizes_from 8 l.initial.ends 0) l.i 0) × (l.run + l.w ≤ 8)
+
+abbrev pub decreases-loop-w : goal.decreases-loop-w
+decreases-loop-w l = l.w
