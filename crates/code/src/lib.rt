@@ -1,5 +1,6 @@
 // The code: its sizes, its coefficients, sets of nodes, and the answers of encoding and decoding (which are in crate coding).
 #![tactic(auto)]
+
 ghost use Rattle.std.specs.Prelude.{◌≡◌, ◌≤◌};
 ghost use Rattle.code.specs.Calls.{code_number};
 ghost use Rattle.code.specs.Code;

@@ -1,5 +1,6 @@
 // Sixteen bytes at a time: as many as the machine adds at once.
 #![tactic(auto)]
+
 ghost use Rattle.std.specs.Prelude.{◌≡◌, ℕ, ◌+◌, ◌/◌, ◌%◌, ◌≤◌, ◌<◌, length, get_or};
 ghost use Rattle.blocks.specs.Blocks.{part};
 ghost use Rattle.basics.specs.Lists.{list_of};

@@ -1,6 +1,7 @@
 // The records of a stripe: nodes and clients, the sizes, the families of calls, and the refusals with their numbers.
 // The types are here; their methods, each with self by value, are in a file for each record.
 #![tactic(auto)]
+
 mod client; // client.rt: a client's record, its write in hand, its rebuild
 mod node; // node.rt: a node's record and its calls
 mod ranges; // ranges.rt: the ranges of numbers, the limits of the sizes

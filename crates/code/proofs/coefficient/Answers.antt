@@ -1,0 +1,8 @@
+-- `code::coefficient` meets its contract. Assumes nothing.
+use borrow.Author.Rules.{rules}
+use Rattle.code.specs.Code.{coefficient}
+use Rattle.code.proofs.coefficient.Goals as goal
+
+pub returns : goal.returns
+unfolding coefficient
+returns c = c.inverse.ensures

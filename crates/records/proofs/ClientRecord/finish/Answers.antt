@@ -1,0 +1,6 @@
+-- By the parts. Assumes nothing.
+use borrow.Author.Rules.{rules}
+use Rattle.records.proofs.ClientRecord.finish.Goals as goal
+
+pub returns : goal.returns
+returns c = rw (c.drop_write.ensures, c.push-client.ensures)

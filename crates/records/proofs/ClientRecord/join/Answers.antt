@@ -1,0 +1,6 @@
+-- The set with j. Assumes nothing.
+use borrow.Author.Rules.{rules}
+use Rattle.records.proofs.ClientRecord.join.Goals as goal
+
+pub returns : goal.returns
+returns c = rw (c.with_hand.ensures, c.with_done.ensures, c.with.ensures)

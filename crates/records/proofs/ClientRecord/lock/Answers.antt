@@ -1,0 +1,6 @@
+-- By the phase. Assumes nothing.
+use borrow.Author.Rules.{rules}
+use Rattle.records.proofs.ClientRecord.lock.Goals as goal
+
+pub returns : goal.returns
+returns c = rw (c.with_phase.ensures, c.lock.ensures)

@@ -1,0 +1,11 @@
+-- Refused where the modes are wrong. Assumes nothing.
+use borrow.Author.Rules.{rules}
+use Rattle.entries.proofs.Tests.{tests}
+use Rattle.records.proofs.Steps.{meets-refused, meets-accepted}
+use Rattle.records.proofs.NodeRecord.mark.Goals as goal
+
+pub returns-then-not-is_free : goal.returns-then-not-is_free
+returns-then-not-is_free c = meets-refused c.wrong_mode.ensures (search tests)
+
+pub returns : goal.returns
+returns c = meets-accepted c.accepted.ensures (search tests) (rw c.mark_old-node.ensures)

@@ -1,0 +1,6 @@
+-- By the parts. Assumes nothing.
+use borrow.Author.Rules.{rules}
+use Rattle.records.proofs.NodeRecord.settled.Goals as goal
+
+pub returns : goal.returns
+returns c = rw (c.none-rset.ensures, c.none-entries.ensures)

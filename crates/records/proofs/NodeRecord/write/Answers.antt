@@ -1,0 +1,11 @@
+-- Refused if the node is not held. Assumes nothing.
+use borrow.Author.Rules.{rules}
+use Rattle.entries.proofs.Tests.{tests}
+use Rattle.records.proofs.Steps.{meets-refused, meets-accepted}
+use Rattle.records.proofs.NodeRecord.write.Goals as goal
+
+pub returns-then-not-held_by : goal.returns-then-not-held_by
+returns-then-not-held_by c = meets-refused c.refused.ensures (search tests)
+
+pub returns : goal.returns
+returns c = meets-accepted c.accepted.ensures (search tests) c.written.ensures

@@ -1,0 +1,6 @@
+-- The set of the position alone. Assumes nothing.
+use borrow.Author.Rules.{rules}
+use Rattle.records.proofs.Write.new.Goals as goal
+
+pub returns : goal.returns
+returns c = rw (c.with-done.ensures, c.none.ensures)
