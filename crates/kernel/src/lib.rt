@@ -4,6 +4,7 @@
 // the bits of its weights from the highest down: the sum so far is doubled, and for each group the one sum is added that the bit chooses. So
 // there is no product of two bytes in it, and every block adds three sums for each bit, whatever the weights.
 #![tactic(auto)]
+
 ghost use Rattle.std.specs.Prelude.{◌≡◌, ℕ, ◌+◌, ◌*◌, ◌≤◌, ◌<◌, length, get_or};
 ghost use Rattle.blocks.specs.Blocks.{table, block};
 ghost use Rattle.kernel.specs.Combine.{source_limit, length_limit, mixed, HasBlocks, Rows, Nodes};

@@ -1,0 +1,14 @@
+-- `kernel::bits::sixteen` meets its contract: after l turns the first l bytes are there. Assumes nothing.
+use mathlib.Core.Path.{refl}
+use Prim.Native.Nat.{◌≤◌, ◌-◌, ◌+◌}
+use native.Mathlib.Omega.{arith}
+use Rattle.kernel.specs.Working.{highest}
+use Rattle.blocks.proofs.Entries.{Begun, begun-none, begun-turn}
+use borrow.Author.Rules.{rules}
+use Rattle.kernel.proofs.bits.sixteen.Given as goal
+
+abbrev pub invariant-loop-l : goal.invariant-loop-l
+invariant-loop-l l = (l.l ≤ 16) × Begun 16 (λ i. highest l.s l.x l.y l.z (l.e + i) 8) l.l l.r
+
+abbrev pub decreases-loop-l : goal.decreases-loop-l
+decreases-loop-l l = 16 - l.l

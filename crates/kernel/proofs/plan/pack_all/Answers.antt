@@ -1,0 +1,18 @@
+-- `kernel::plan::pack_all` meets its contract: after i turns the first i are there. Assumes nothing.
+use mathlib.Core.Path.{refl}
+use Prim.Native.Nat.{◌≤◌, ◌-◌, ◌+◌, ◌*◌}
+use native.Mathlib.Omega.{arith}
+use lib.ListN.{get_or}
+use Rattle.kernel.specs.Working.{packed}
+use Rattle.blocks.proofs.Entries.{Begun, begun-none, begun-turn}
+use borrow.Author.Rules.{rules}
+use Rattle.kernel.proofs.plan.pack_all.Goals as goal
+
+pub loop-i-init : goal.loop-i-init
+loop-i-init c = (search rules, begun-none _ _ _ refl)
+
+pub loop-i-preserved : goal.loop-i-preserved
+loop-i-preserved c = (search rules, begun-turn _ _ _ _ _ (omega arith) c.pack.ensures c.loop-i.invariant.1)
+
+pub returns : goal.returns
+returns c = λ i h. c.loop-i.invariant.1.done i (omega arith)

@@ -1,0 +1,15 @@
+-- `kernel::plan::pack_all` meets its contract: after i turns the first i are there. Assumes nothing.
+use mathlib.Core.Path.{refl}
+use Prim.Native.Nat.{◌≤◌, ◌-◌, ◌+◌, ◌*◌}
+use native.Mathlib.Omega.{arith}
+use lib.ListN.{get_or}
+use Rattle.kernel.specs.Working.{packed}
+use Rattle.blocks.proofs.Entries.{Begun, begun-none, begun-turn}
+use borrow.Author.Rules.{rules}
+use Rattle.kernel.proofs.plan.pack_all.Given as goal
+
+abbrev pub invariant-loop-i : goal.invariant-loop-i
+invariant-loop-i l = (l.i ≤ 3 * l.m) × Begun 768 (λ l.i. packed (get_or l.rows (4 * l.i) 0) (get_or l.rows (4 * l.i + 1) 0) (get_or l.rows (4 * l.i + 2) 0) (get_or l.rows (4 * l.i + 3) 0)) l.i l.r
+
+abbrev pub decreases-loop-i : goal.decreases-loop-i
+decreases-loop-i l = 3 * l.m - l.i

@@ -1,0 +1,14 @@
+-- `kernel::sums::tile_sums` meets its contract: after g turns the sums of the first g groups are there. Assumes nothing.
+use mathlib.Core.Path.{◌≡◌}
+use Prim.Native.Nat.{◌≤◌, ◌-◌}
+use native.Mathlib.Omega.{arith}
+use Rattle.kernel.specs.Working.{Summed}
+use Rattle.kernel.proofs.Tiles.{summed-none, prepared}
+use borrow.Author.Rules.{rules}
+use Rattle.kernel.proofs.sums.tile_sums.Given as goal
+
+abbrev pub invariant-loop-g : goal.invariant-loop-g
+invariant-loop-g l = (l.g ≤ 3) × Summed l.t l.starts l.p l.n l.g 0 l.s
+
+abbrev pub decreases-loop-g : goal.decreases-loop-g
+decreases-loop-g l = 3 - l.g
