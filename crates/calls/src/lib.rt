@@ -1,6 +1,7 @@
 // What is asked of a stripe and what is answered: the calls by family, the answers, and what the calls at one node hand back with them.
 // The types are here; their methods are in a file for each.
 #![tactic(auto)]
+
 mod answers; // answers.rt: the answers
 mod asked; // asked.rt: what a call is lent
 mod shown; // shown.rt: the part of a table that an answer names

@@ -1,5 +1,6 @@
 // Where a volume's blocks are: the stripe and the position of a block, the card of a node, the node on a card.
 #![tactic(auto)]
+
 ghost use Rattle.std.specs.Prelude.{◌≡◌};
 ghost use Rattle.layout.specs.Layout.{home_of, is_one_of, card_for, node_for};
 

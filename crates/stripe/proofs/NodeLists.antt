@@ -28,7 +28,7 @@ use Rattle.stripe.specs.View.{blank_record, record_at, nodes_of, Counted}
 use Rattle.stripe.specs.contracts.nodes.Nodes.{the_type}
 
 pub eighteen : (x : Nodes) (vs : List Val) → Is (row the_type) x vs → length x.items ≡ 18
-eighteen x vs g = sym (length-map x.items _) ∙ g.1.1.0.1.0.1
+eighteen x vs g = g.1.1.0.1.0.1
 
 pub nodes-count : (n : ℕ) (x : Nodes) → length (nodes_of n x) ≡ n
 nodes-count n x = length-list_of n (λ i. node_of (record_at x i))

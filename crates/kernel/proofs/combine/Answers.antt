@@ -35,10 +35,10 @@ tile_sums-requires c = (
 )
 
 pub slice_bounds-s-end-in-loop-p : goal.slice_bounds-s-end-in-loop-p
-slice_bounds-s-end-in-loop-p c = omega (arith, rest c.loop-p.s c.tile_sums.new.0 c.loop-p.invariant.1 c.tile_sums.ensures.size)
+slice_bounds-s-end-in-loop-p c = omega (arith, rest c.loop-p.s c.tile_sums.new.s c.loop-p.invariant.1 c.tile_sums.ensures.size)
 
 pub slice_bounds-fill_all-end : goal.slice_bounds-fill_all-end
-slice_bounds-fill_all-end c = sym (whole c.tile_sums.new.0 (drop 12288 c.loop-p.s) c.tile_sums.ensures.size)
+slice_bounds-fill_all-end c = sym (whole c.tile_sums.new.s (drop 12288 c.loop-p.s) c.tile_sums.ensures.size)
 
 pub fill_all-requires : goal.fill_all-requires
 fill_all-requires c = (
@@ -46,8 +46,8 @@ fill_all-requires c = (
   omega arith,
   c.tile_of-n.ensures.1,
   c.loop-p.invariant.2.size,
-  whole c.tile_sums.new.0 (drop 12288 c.loop-p.s) c.tile_sums.ensures.size,
-  rw (take_at c.tile_sums.new.0 (drop 12288 c.loop-p.s) 12288 c.tile_sums.ensures.size) (zeroed _ _ _ _ _ c.tile_sums.ensures),
+  whole c.tile_sums.new.s (drop 12288 c.loop-p.s) c.tile_sums.ensures.size,
+  rw (take_at c.tile_sums.new.s (drop 12288 c.loop-p.s) 12288 c.tile_sums.ensures.size) (zeroed _ _ _ _ _ c.tile_sums.ensures),
 )
 
 pub loop-p-smaller : goal.loop-p-smaller
@@ -55,12 +55,12 @@ loop-p-smaller c = omega (arith, c.tile_of-n.ensures.2 (omega arith))
 
 pub loop-p-preserved : goal.loop-p-preserved
 loop-p-preserved c = let args = c.args in
-    let sums = c.tile_sums.new.0 in
+    let sums = c.tile_sums.new.s in
     let only = take_at sums (drop 12288 c.loop-p.s) 12288 c.tile_sums.ensures.size in (
       omega arith,
       rest c.loop-p.s sums c.loop-p.invariant.1 c.tile_sums.ensures.size,
       columns-turn args.m args.b args.t.now args.starts.now args.rows.now c.loop-p.p c.tile_of-n.result sums c.pack_all-plan.result
-          c.loop-p.out c.fill_all.new.0 c.requires.3.twelve c.requires.2 (bytes_of args.t.now c.shared_slice_known-1.given)
+          c.loop-p.out c.fill_all.new.out c.requires.3.twelve c.requires.2 (bytes_of args.t.now c.shared_slice_known-1.given)
           (bytes_of args.rows.now c.shared_slice_known-2-1.given) c.pack_all-plan.ensures c.tile_sums.ensures
           (rw only at c.fill_all.ensures) c.loop-p.invariant.2,
     )

@@ -36,7 +36,7 @@ unfolding set_part
 loop-j-preserved c = let args = c.args in
     let fits = filled-fits _ _ _ _ _ _ _ c.requires.1 c.loop-j.j c.loop-j.out (omega arith) c.loop-j.invariant.1 in
     let many = lent_length (c.loop-j.j * args.b + args.p) args.n c.loop-j.out fits in
-    (omega arith, filled-turn _ _ _ _ _ _ _ c.requires.1 c.loop-j.j c.loop-j.out c.fill.new.0 (omega arith) c.loop-j.invariant.1 (c.fill.ensures.0 ∙ many) (λ i h. c.fill.ensures.1 i (omega (arith, many))))
+    (omega arith, filled-turn _ _ _ _ _ _ _ c.requires.1 c.loop-j.j c.loop-j.out c.fill.new.out (omega arith) c.loop-j.invariant.1 (c.fill.ensures.0 ∙ many) (λ i h. c.fill.ensures.1 i (omega (arith, many))))
 
 pub returns : goal.returns
 returns c = let last : c.loop-j.j ≡ c.args.m = omega arith in

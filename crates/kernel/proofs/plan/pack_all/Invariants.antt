@@ -9,7 +9,7 @@ use borrow.Author.Rules.{rules}
 use Rattle.kernel.proofs.plan.pack_all.Given as goal
 
 abbrev pub invariant-loop-i : goal.invariant-loop-i
-invariant-loop-i l = (l.i ≤ 3 * l.m) × Begun 768 (λ l.i. packed (get_or l.rows (4 * l.i) 0) (get_or l.rows (4 * l.i + 1) 0) (get_or l.rows (4 * l.i + 2) 0) (get_or l.rows (4 * l.i + 3) 0)) l.i l.r
+invariant-loop-i l = (l.i ≤ 3 * l.m) × Begun 768 (λ j. packed (get_or l.rows (4 * j) 0) (get_or l.rows (4 * j + 1) 0) (get_or l.rows (4 * j + 2) 0) (get_or l.rows (4 * j + 3) 0)) l.i l.r
 
 abbrev pub decreases-loop-i : goal.decreases-loop-i
 decreases-loop-i l = 3 * l.m - l.i

@@ -1,0 +1,19 @@
+-- Places from the first to i are changed. Assumes nothing.
+use mathlib.Core.Path.{sym, ap, ◌∙◌}
+use Prim.Native.Nat.{◌≤◌, ◌<◌, ◌-◌}
+use native.Mathlib.Omega.{arith}
+use borrow.Author.Rules.{rules}
+use Rattle.records.specs.View.{node_of}
+use Rattle.stripe.specs.Seen.{changed_at, first_of, end_of}
+use Rattle.stripe.specs.View.{blank_record, record_at, nodes_of}
+use Rattle.stripe.proofs.Applied.{applied-is, range-order, range-end}
+use Rattle.stripe.proofs.Changes.{node-there}
+use Rattle.stripe.proofs.Loops.{Stored, store-start, store-next, store-on}
+use Rattle.stripe.proofs.NodeLists.{eighteen, nodes-count}
+use Rattle.stripe.proofs.nodes.Nodes.change.Given as goal
+
+abbrev pub invariant-loop-i : goal.invariant-loop-i
+invariant-loop-i l = Stored node_of blank_record (λ p. changed_at l.change p (node_of (record_at l.initial.self p))) l.initial.self.items l.self.items (first_of l.change l.n) l.i (end_of l.change l.n)
+
+abbrev pub decreases-loop-i : goal.decreases-loop-i
+decreases-loop-i l = l.end - l.i

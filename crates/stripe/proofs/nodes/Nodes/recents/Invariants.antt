@@ -1,0 +1,16 @@
+-- Items 0 to i are the recent ids of nodes 1 to i. Assumes nothing.
+use Prim.Native.Nat.{suc, ◌-◌}
+use native.Mathlib.Omega.{arith}
+use borrow.Author.Rules.{rules}
+use Rattle.machine.specs.Rebuild.{f}
+use Rattle.stripe.specs.Sets.{blank_ids}
+use Rattle.stripe.specs.View.{nodes_of, recent_of}
+use Rattle.stripe.proofs.Loops.{Stored, store-start, store-on}
+use Rattle.stripe.proofs.NodeLists.{node-item}
+use Rattle.stripe.proofs.nodes.Nodes.recents.Given as goal
+
+abbrev pub invariant-loop-i : goal.invariant-loop-i
+invariant-loop-i l = Stored recent_of blank_ids (λ p. f (nodes_of l.n l.self) (suc p)) l.initial.items l.items 0 l.i l.n
+
+abbrev pub decreases-loop-i : goal.decreases-loop-i
+decreases-loop-i l = l.n - l.i
