@@ -1,5 +1,6 @@
 // Encoding and decoding on the caller's buffers.
 #![tactic(auto)]
+
 ghost use Rattle.std.specs.Prelude.{true, ◌≡◌, ◌*◌, length};
 ghost use Rattle.code.specs.Code.{code_sizes};
 ghost use Rattle.code.specs.View.{node_set_of};

@@ -1,6 +1,6 @@
 // A client stops.
 ghost use Rattle.machine.specs.Failure as Failure;
-ghost use Rattle.rebuild.specs.Contracts.{Steps};
+ghost use Rattle.rebuild.specs.Promises.{Steps};
 
 use calls::Answer;
 use rebuild::Stepped;

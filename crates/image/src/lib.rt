@@ -1,5 +1,6 @@
 // The image of a stripe (docs/IMAGE.md). What it is, and what is proved of it, are in specs and proofs; here is where its sections begin, and its length.
 #![tactic(auto)]
+
 ghost use Rattle.std.specs.Prelude.{true, ◌≡◌, ◌*◌, ◌≤◌};
 ghost use Rattle.records.specs.Sizes.{node_limit, block_limit, sizes_within};
 ghost use Rattle.image.specs.Places.{length_by, places_of};

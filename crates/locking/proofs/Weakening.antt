@@ -13,7 +13,7 @@ use Rattle.basics.specs.Lists.{every_of, some_of}
 use Rattle.machine.specs.Rebuild.{advanced, holding, some_recons, weakened}
 use Rattle.basics.proofs.Tests.{and_both, or-none}
 use Rattle.stripe.specs.Seen.{weakened_for}
-use Rattle.rebuild.specs.Contracts.{is_picking, not_held}
+use Rattle.rebuild.specs.Promises.{is_picking, not_held}
 use Rattle.rebuild.proofs.Phases.{in_picks, picks-in}
 
 -- ---- where all nodes are held and none is RECONS, each one is weakened

@@ -4,7 +4,7 @@ ghost use Rattle.machine.specs.Rebuild as Rebuild;
 ghost use Rattle.records.specs.Client.{remembered};
 ghost use Rattle.records.specs.View.{old_lmodes, client_of};
 ghost use Rattle.records.specs.Sizes.{node_limit};
-ghost use Rattle.rebuild.specs.Contracts.{own, Steps, Admitted, lock_next};
+ghost use Rattle.rebuild.specs.Promises.{own, Steps, Admitted, lock_next};
 
 use calls::Answer;
 use code::NodeSet;

@@ -1,6 +1,6 @@
 // Quit.
 ghost use Rattle.machine.specs.Rebuild as Rebuild;
-ghost use Rattle.rebuild.specs.Contracts.{Steps};
+ghost use Rattle.rebuild.specs.Promises.{Steps};
 
 use calls::Answer;
 use rebuild::Stepped;

@@ -2,7 +2,7 @@
 ghost use Rattle.std.specs.Prelude.{true, ◌≡◌};
 ghost use Rattle.machine.specs.Rebuild as Rebuild;
 ghost use Rattle.records.specs.View.{client_of};
-ghost use Rattle.rebuild.specs.Contracts.{Steps, Admitted, is_picking};
+ghost use Rattle.rebuild.specs.Promises.{Steps, Admitted, is_picking};
 
 use calls::Answer;
 use rebuild::admission::entrance;

@@ -1,5 +1,6 @@
 // Numbers as bytes, the low byte first, and a buffer that is filled piece by piece.
 #![tactic(auto)]
+
 ghost use Rattle.std.specs.Prelude.{◌≡◌, ◌+◌, ◌≤◌, length};
 ghost use Rattle.octets.specs.Octets.{word_bytes, Put};
 

@@ -27,7 +27,7 @@ use Rattle.stripe.specs.View.{nodes_of}
 use Rattle.calls.specs.declared.Answer.{Answer}
 use Rattle.calls.specs.declared.Answer.TheVariants as Answers
 use Rattle.calls.specs.Answers.{Left, answer_of, whole}
-use Rattle.rebuild.specs.Contracts.{Admitted, not_held}
+use Rattle.rebuild.specs.Promises.{Admitted, not_held}
 use Rattle.picking.specs.declared.Picked.{Picked}
 use Rattle.picking.specs.Picking.{pick_held, seen_whole, Picks, PickAdmitted}
 use Rattle.calls.proofs.Left.{unchanged}

@@ -1,6 +1,7 @@
 // Document 01, "Writing": what a read is answered, on the records that it goes by; change request C-15: reading while a rebuild runs.
 // The block that the answer names is a part of a table (calls::shown_part).
 #![tactic(auto)]
+
 ghost use Rattle.std.specs.Prelude.{true, ◌&&◌, ◌≡◌, ◌*◌, eqb};
 ghost use Rattle.calls.specs.Answers.{read_as};
 ghost use Rattle.machine.specs.Reading.{read};

@@ -23,7 +23,7 @@ use Rattle.records.specs.View.{client_of}
 use Rattle.stripe.specs.declared.seen.Seen.{Seen}
 use Rattle.stripe.specs.Seen.{Sees}
 use Rattle.calls.specs.Answers.{whole}
-use Rattle.rebuild.specs.Contracts.{entrance, Admitted}
+use Rattle.rebuild.specs.Promises.{entrance, Admitted}
 
 -- ---- sizes within their limits
 

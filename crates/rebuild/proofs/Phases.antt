@@ -29,7 +29,7 @@ use Rattle.records.proofs.Limits.{nodes-few}
 use Rattle.records.specs.contracts.Phase.{the_type}
 use Rattle.stripe.specs.declared.seen.Seen.{Seen}
 use Rattle.calls.specs.Answers.{whole}
-use Rattle.rebuild.specs.Contracts.{Admitted, is_picking}
+use Rattle.rebuild.specs.Promises.{Admitted, is_picking}
 
 -- ---- the phase's node
 

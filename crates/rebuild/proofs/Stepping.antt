@@ -27,7 +27,7 @@ use Rattle.calls.specs.declared.Answer.TheVariants.{Refused}
 use Rattle.calls.specs.Answers.{Left, answer_of, whole}
 use Rattle.calls.proofs.Left.{unchanged}
 use Rattle.rebuild.specs.declared.Stepped.{Stepped}
-use Rattle.rebuild.specs.Contracts.{own, Told, Stepping, Admitted, entrance}
+use Rattle.rebuild.specs.Promises.{own, Told, Stepping, Admitted, entrance}
 use Rattle.rebuild.proofs.Limits.{passed, failed, limits-seen}
 
 -- what the node's answer tells of it

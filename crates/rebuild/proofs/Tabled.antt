@@ -22,7 +22,7 @@ use Rattle.records.specs.View.{client_of}
 use Rattle.stripe.specs.declared.seen.Seen.{Seen}
 use Rattle.stripe.specs.Seen.{Sees}
 use Rattle.calls.specs.Answers.{whole}
-use Rattle.rebuild.specs.Contracts.{Admitted}
+use Rattle.rebuild.specs.Promises.{Admitted}
 use Rattle.rebuild.specs.Tables.{both_fit, tabled_entrance, Tables}
 use Rattle.rebuild.proofs.Limits.{tests, admitted, limits-seen, passed, failed}
 

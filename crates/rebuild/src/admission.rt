@@ -7,7 +7,7 @@ ghost use Rattle.records.specs.NodeSteps.{held_answer};
 ghost use Rattle.records.specs.Sizes.{node_limit, sizes_within};
 ghost use Rattle.records.specs.View.{node_of, client_of};
 ghost use Rattle.stripe.specs.Seen.{keep, expire};
-ghost use Rattle.rebuild.specs.Contracts.{Steps, entrance, not_held, at_own};
+ghost use Rattle.rebuild.specs.Promises.{Steps, entrance, not_held, at_own};
 
 use crate::Stepped;
 use calls::Answer;

@@ -2,6 +2,7 @@
 // what becomes of the others handed out. The calls are crates locking (lock, weaken, tighten, unlock, quit), picking (pick) and restoring (write,
 // settle).
 #![tactic(auto)]
+
 pub mod admission; // admission.rt: the tests that every call begins with, and what a call hands back
 mod phase; // phase.rt: the phase that pick and weaken share
 pub mod tables; // tables.rt: the tests of the calls that are lent both tables

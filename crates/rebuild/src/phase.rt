@@ -1,7 +1,7 @@
 // The phase that pick and weaken share.
 ghost use Rattle.std.specs.Prelude.{◌≡◌};
 ghost use Rattle.records.specs.View.{client_of};
-ghost use Rattle.rebuild.specs.Contracts.{is_picking};
+ghost use Rattle.rebuild.specs.Promises.{is_picking};
 
 use records::{ClientRecord, Phase};
 

@@ -1,7 +1,7 @@
 // Settle.
 ghost use Rattle.std.specs.Prelude.{cond, ◌≡◌, leb};
 ghost use Rattle.machine.specs.Rebuild as Rebuild;
-ghost use Rattle.rebuild.specs.Contracts.{Steps, Admitted};
+ghost use Rattle.rebuild.specs.Promises.{Steps, Admitted};
 
 use calls::Answer;
 use entries::Epoch;

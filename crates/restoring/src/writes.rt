@@ -5,7 +5,7 @@ ghost use Rattle.machine.specs.Rebuild as Rebuild;
 ghost use Rattle.records.specs.Node.{Node};
 ghost use Rattle.records.specs.View.{client_of};
 ghost use Rattle.calls.specs.Answers.{whole};
-ghost use Rattle.rebuild.specs.Contracts.{Told, Stepping, Admitted};
+ghost use Rattle.rebuild.specs.Promises.{Told, Stepping, Admitted};
 ghost use Rattle.rebuild.specs.Tables.{Tables};
 
 use blocks::copy_block;

@@ -29,7 +29,7 @@ use Rattle.stripe.specs.declared.seen.Seen.{Seen}
 use Rattle.stripe.specs.Seen.{Sees, applied, keep}
 use Rattle.aging.specs.declared.Ticked.{Ticked}
 use Rattle.rebuild.specs.declared.Stepped.{Stepped}
-use Rattle.rebuild.specs.Contracts.{Told, nodes_after, Steps}
+use Rattle.rebuild.specs.Promises.{Told, nodes_after, Steps}
 use Rattle.step.specs.Steps.{Handed, put_back, stripe_with, StepsAs}
 
 -- the records of node j and of client c

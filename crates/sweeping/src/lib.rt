@@ -1,5 +1,6 @@
 // Document 01, "Writing", on the records of the node and of the client by value: check, drop, sweep.
 #![tactic(auto)]
+
 mod checks; // checks.rt: check, drop
 mod sweeps; // sweeps.rt: sweep
 

@@ -14,7 +14,7 @@ use Rattle.records.specs.declared.Refusal.TheVariants.{OutOfPhase}
 use Rattle.records.specs.Node.{Node, held_by, written}
 use Rattle.records.specs.View.{node_of, client_of}
 use Rattle.calls.specs.Answers.{whole}
-use Rattle.rebuild.specs.Contracts.{Told}
+use Rattle.rebuild.specs.Promises.{Told}
 use Rattle.rebuild.proofs.Phases.{writing}
 use Rattle.rebuild.proofs.Stepping.{steps-made, steps-as, held-accepted, held-refused, own_in}
 use Rattle.rebuild.proofs.Tabled.{tabled-past}

@@ -1,0 +1,14 @@
+-- `coding::weights::data_weights` meets its contract. Assumes nothing.
+use mathlib.Core.Path.{refl}
+use Prim.Native.Nat.{◌≤◌, ◌+◌, ◌-◌, ◌*◌, ◌/◌, ◌%◌}
+use native.Mathlib.Omega.{arith}
+use Rattle.coding.specs.Weights.{data_weight}
+use Rattle.blocks.proofs.Entries.{Begun, begun-none, begun-turn}
+use borrow.Author.Rules.{rules}
+use Rattle.coding.proofs.weights.data_weights.Given as goal
+
+abbrev pub invariant-loop-i : goal.invariant-loop-i
+invariant-loop-i l = (l.i ≤ l.m * 12) × Begun 72 (λ w. data_weight l.k (l.k + w / 12 + 1) (w % 12)) l.i l.r
+
+abbrev pub decreases-loop-i : goal.decreases-loop-i
+decreases-loop-i l = l.m * 12 - l.i

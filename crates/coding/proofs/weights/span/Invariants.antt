@@ -1,0 +1,17 @@
+-- `coding::weights::span` meets its contract: at place l r is the logarithm of the product of the nodes after the first a up to l. Assumes nothing.
+use mathlib.Core.Path.{◌≡◌, refl, ap}
+use Prim.Native.Nat.{ℕ, ◌≤◌, ◌<◌, ◌-◌, ◌*◌}
+use native.Mathlib.Omega.{arith}
+use lib.ListN.{length, get_or}
+use Rattle.gf256.specs.Field.{power}
+use borrow.Author.Rules.{rules}
+use Rattle.kernel.specs.Combine.{nth}
+use Rattle.coding.specs.Weights.{factors}
+use Rattle.coding.proofs.Weighing.{points-apart, factors-turn}
+use Rattle.coding.proofs.weights.span.Given as goal
+
+abbrev pub invariant-loop-l : goal.invariant-loop-l
+invariant-loop-l l = (l.a ≤ l.l) × (l.l ≤ l.e) × (l.r ≤ 254 * (l.l - l.a)) × (power l.r ≡ factors (nth l.nodes) l.a (l.l - l.a) (l.j - 1))
+
+abbrev pub decreases-loop-l : goal.decreases-loop-l
+decreases-loop-l l = l.e - l.l

@@ -1,0 +1,46 @@
+-- The tests, in order; then as the write in hand is checked. Assumes nothing.
+use mathlib.Core.Path.{◌≡◌, ◌∙◌}
+use mathlib.Core.List.{List}
+use Prim.Native.Nat.{ℕ}
+use borrow.Author.Rules.{rules}
+use Rattle.records.specs.View.{node_of, client_of}
+use Rattle.machine.specs.Stripe.{Local}
+use Rattle.machine.specs.Writing as Writing
+use Rattle.calls.specs.Answers.{local}
+use Rattle.sweeping.proofs.Checking.{check-empty}
+use Rattle.calls.proofs.Returns.{guards, holds, refused-of-client}
+use Rattle.limits.proofs.Within.{lent-within}
+use Rattle.sweeping.proofs.checks.check.Goals as goal
+
+abbrev lent : tie.Start → List ℕ → List ℕ → Local
+lent s blocks differences = local (node_of s.args.node) (client_of s.args.client) blocks differences
+
+-- past these tests
+passed : (c : tie.Else2) (blocks differences : List ℕ) →
+    let s = c.before.before.before.before in
+    let a = s.args in
+    Writing.check_write a.j (client_of a.client).hand (lent s blocks differences) ≡ Writing.check a.z a.c a.j (lent s blocks differences)
+unfolding Writing.check
+passed c blocks differences =
+    let at-limits = c.before.before in
+    search (guards, at-limits.before.is_Within.ensures, at-limits.if1.false, c.before.is_in_range.ensures, c.if2.false)
+
+pub returns-then-not-is_within : goal.returns-then-not-is_within
+unfolding Writing.check
+returns-then-not-is_within c blocks differences = refused-of-client c.refused.ensures (search (guards, c.is_within.ensures, c.if-not-is_within.true-raw))
+
+pub returns-then-not-is_in_range : goal.returns-then-not-is_in_range
+unfolding Writing.check
+returns-then-not-is_in_range c blocks differences = refused-of-client c.refused-then-not-is_in_range.ensures (search (guards, c.is_within.ensures, c.if-not-is_within.false-raw, c.is_in_range.ensures, c.if-not-is_in_range.true-raw))
+
+pub check_write-requires : goal.check_write-requires
+check_write-requires c = let a = c.args in
+    let known = lent-within a.z a.node a.client (holds c.is_within.ensures c.if-not-is_within.false-raw) in
+    (c.in-Holding.is, known.entries)
+
+pub returns-in-Empty : goal.returns-in-Empty
+returns-in-Empty c blocks differences = refused-of-client c.refused-in-Empty.ensures
+    (check-empty c.args.j c.args.client (lent c blocks differences) c.in-Empty.is ∙ passed c blocks differences)
+
+pub returns-in-Holding : goal.returns-in-Holding
+returns-in-Holding c blocks differences = rw (← passed c blocks differences) (c.check_write.ensures blocks differences)

@@ -1,0 +1,42 @@
+-- Refused where the write is not done; then by what the node tells. Assumes nothing.
+use mathlib.Core.Path.{◌≡◌, sym, ap, ◌∙◌}
+use mathlib.Core.Bool.{true}
+use mathlib.Core.List.{List}
+use Prim.Native.Nat.{ℕ}
+use borrow.Author.Rules.{rules}
+use borrow.Author.Tests.{not-true}
+use Rattle.code.specs.Decode.{has}
+use Rattle.code.specs.View.{node_set_of}
+use Rattle.records.specs.declared.CheckStep.{CheckStep}
+use Rattle.records.specs.View.{node_of, client_of}
+use Rattle.machine.specs.Stripe.{Local}
+use Rattle.calls.specs.Answers.{local}
+use Rattle.sweeping.proofs.Checking.{check-undone, check-init, check-gc, check-same}
+use Rattle.calls.proofs.Returns.{holds, refused-of-client}
+use Rattle.sweeping.proofs.checks.check_write.Goals as goal
+
+abbrev lent : tie.Start → List ℕ → List ℕ → Local
+lent s blocks differences = local (node_of s.args.node) (client_of s.args.client) blocks differences
+
+there : (c : tie.Else1) → let a = c.before.before.before.args in has (node_set_of a.write.done) a.j ≡ true
+there c = holds c.before.contains.ensures c.if1.false
+
+pub returns-then-not-contains : goal.returns-then-not-contains
+returns-then-not-contains c blocks differences = let a = c.args in
+    let undone = sym c.contains.ensures ∙ not-true _ c.if-not-contains.true-raw in
+    refused-of-client c.refused.ensures (check-undone a.j a.client a.write (lent c blocks differences) c.requires.0 undone)
+
+pub returns-in-Init : goal.returns-in-Init
+returns-in-Init c blocks differences = let a = c.args in
+    check-init a.j a.client a.write (lent c blocks differences) c.requires.0 (there c) (ap (λ (x : CheckStep). x.answer) c.check-asked.ensures)
+    c.in-Init.is c.leave.ensures
+
+pub returns-in-Gc : goal.returns-in-Gc
+returns-in-Gc c blocks differences = let a = c.args in
+    check-gc a.j a.client a.write (lent c blocks differences) c.requires.0 (there c) (ap (λ (x : CheckStep). x.answer) c.check-asked.ensures)
+    c.in-Gc.is c.forget.ensures
+
+pub returns-in-NoChange : goal.returns-in-NoChange
+returns-in-NoChange c blocks differences = let a = c.args in
+    check-same a.j a.client a.write (lent c blocks differences) c.requires.0 (there c) (ap (λ (x : CheckStep). x.answer) c.check-asked.ensures)
+    c.in-NoChange.is
