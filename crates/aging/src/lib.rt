@@ -1,5 +1,6 @@
 // Document 01, "Due test and runner", by the record of a node: the due test. Change request C-12: the tick.
 #![tactic(auto)]
+
 mod dues; // dues.rt: the due test
 mod ticks; // ticks.rt: a tick
 

@@ -1,5 +1,6 @@
 // Document 01, "Rebuild": pick, which looks at all node records by value and decodes the spare from the set that it takes.
 #![tactic(auto)]
+
 mod picks; // picks.rt: pick
 
 use calls::Answer;

@@ -6,6 +6,7 @@ use mathlib.Core.List.{List, [], ◌∷◌}
 use Prim.Native.Nat.{ℕ, ◌≤◌, ◌<◌, max}
 use lib.Dec.{eqb, leb, ltb}
 use borrow.Author.Tests.{leb-true, ltb-true, not-true}
+use borrow.Enum.Refused.{Among, opened}
 use types.Run.{OneOf}
 use denote.Enum.Declared.{tag_of}
 use Rattle.basics.proofs.Tests.{and_left, and_right, and_both}
@@ -88,10 +89,10 @@ none_of phase (tag ∷ next ∷ tags) x (inr k) e = none_of phase (next ∷ tags
 
 -- a call out of its phase: the rebuild is in one of the other variants
 pub out-of-phase : (phase : ℕ) (tags : List ℕ) (y : ClientRecord) {nodes : List Records.Node} {blocks spare : List ℕ} (rest : Outcome Whole)
-    → OneOf tags (tag_of the_type y.phase) → others phase tags ≡ true
+    → Among tags (tag_of the_type y.phase) → others phase tags ≡ true
     → let w = whole nodes (client_of y) blocks spare in refused OutOfPhase w ≡ guard (out_of phase w) OutOfPhase w rest
 unfolding guard
-out-of-phase phase tags y rest k e = rw (by-tag y.phase, none_of phase tags (tag_of the_type y.phase) k e)
+out-of-phase phase tags y rest k e = rw (by-tag y.phase, none_of phase tags (tag_of the_type y.phase) (opened k) e)
 
 -- ---- the phase of pick and weaken
 

@@ -15,9 +15,10 @@ use Rattle.adding.proofs.Adding.{add-in, add-without}
 use Rattle.adding.proofs.Ready.{hand-room}
 use Rattle.calls.proofs.Stepping.{steps-refused}
 use Rattle.adding.proofs.adds.step_records.Goals as goal
+use Rattle.adding.proofs.adds.step_records.Goals.{Else-not-is_in_range}
 
-in-range : (c : tie.Else1) → let a = c.before.before.args in (is_client a.z a.c && is_redundant a.z a.j) ≡ true
-in-range c = sym c.before.is_in_range.ensures ∙ not-false _ c.if1.false
+in-range : (c : Else-not-is_in_range) → let a = c.args in (is_client a.z a.c && is_redundant a.z a.j) ≡ true
+in-range c = sym c.is_in_range.ensures ∙ not-false _ c.if-not-is_in_range.false-raw
 
 pub returns-then-not-is_in_range : goal.returns-then-not-is_in_range
 returns-then-not-is_in_range c blocks differences = let a = c.args in
@@ -34,8 +35,8 @@ step_write-requires c = let a = c.args in
 pub returns-in-Empty : goal.returns-in-Empty
 returns-in-Empty c blocks differences = let a = c.args in
     steps-refused
-    (add-without a.z a.c a.j (node_of a.node) (client_of a.client) (in-range c) (rw c.in-Empty.is)) c.refused-in-Empty.ensures
+    (add-without a.z a.c a.j (node_of a.node) (client_of a.client) (in-range (goal.at.returns-in-Empty c).Else-not-is_in_range) (rw c.in-Empty.is)) c.refused-in-Empty.ensures
 
 pub returns-in-Holding : goal.returns-in-Holding
 returns-in-Holding c blocks differences = let a = c.args in
-    rw (add-in a.z a.c a.j (node_of a.node) (client_of a.client) (in-range c)) (c.step_write.ensures a.c blocks differences)
+    rw (add-in a.z a.c a.j (node_of a.node) (client_of a.client) (in-range (goal.at.returns-in-Holding c).Else-not-is_in_range)) (c.step_write.ensures a.c blocks differences)

@@ -11,9 +11,10 @@ use Rattle.calls.proofs.NodeAnswers.{stepped}
 use Rattle.adding.proofs.Adding.{said, add_done, add-told}
 use Rattle.calls.proofs.Stepping.{steps-refused, steps-made}
 use Rattle.adding.proofs.adds.step_write.Goals as goal
+use Rattle.adding.proofs.adds.step_write.Goals.{Else-contains}
 
-todo : (c : tie.Else1) → let a = c.before.before.before.args in has (node_set_of a.write.done) a.j ≡ false
-todo c = sym c.before.contains.ensures ∙ c.if1.false
+todo : (c : Else-contains) → let a = c.args in has (node_set_of a.write.done) a.j ≡ false
+todo c = sym c.contains.ensures ∙ c.if-contains.false
 
 pub returns-then-contains : goal.returns-then-contains
 returns-then-contains c client blocks differences = let a = c.args in
@@ -22,12 +23,12 @@ returns-then-contains c client blocks differences = let a = c.args in
 pub returns-in-Refused : goal.returns-in-Refused
 returns-in-Refused c client blocks differences = let a = c.args in
     let told = sym c.in-Refused.is ∙ c.add-step.ensures.answered in
-    steps-refused (rw c.requires.0 (add-told a.j a.write (node_of a.node) (todo c) (Refused _) told)) c.refused-in-Refused.ensures
+    steps-refused (rw c.requires.0 (add-told a.j a.write (node_of a.node) (todo (goal.at.returns-in-Refused c).Else-contains) (Refused _) told)) c.refused-in-Refused.ensures
 
 pub returns : goal.returns
 returns c client blocks differences = let a = c.args in
     let took = c.in_default.is in
-    steps-made (rw c.requires.0 (add-told a.j a.write (node_of a.node) (todo c) Accepted (sym took ∙ c.add-step.ensures.answered)))
-    (rw (c.requires.0, c.join-joined.ensures.0) (said (completes a.z a.j (write_of a.write))))
+    steps-made (rw c.requires.0 (add-told a.j a.write (node_of a.node) (todo (goal.at.returns c).Else-contains) Accepted (sym took ∙ c.add-step.ensures.answered)))
+    (rw (c.requires.0, c.join-joined.ensures.answer) (said (completes a.z a.j (write_of a.write))))
     (rw c.requires.0 (stepped c.add-step.ensures took))
-    (rw c.requires.0 c.join-joined.ensures.1)
+    (rw c.requires.0 c.join-joined.ensures.client)

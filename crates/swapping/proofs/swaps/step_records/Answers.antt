@@ -12,12 +12,13 @@ use Rattle.machine.proofs.Tests.{swap-out}
 use Rattle.calls.proofs.Stepping.{steps-refused, steps-made}
 use Rattle.swapping.proofs.Swapping.{swap-busy, swap-refused, swap-full, swap-exhausted, swap-free}
 use Rattle.swapping.proofs.swaps.step_records.Goals as goal
+use Rattle.swapping.proofs.swaps.step_records.Goals.{Else-not-is_in_range, Else-is_busy}
 
-in-range : (c : tie.Else1) → let a = c.before.before.args in (is_client a.z a.c && is_position a.z a.i) ≡ true
-in-range c = sym c.before.is_in_range.ensures ∙ not-false _ c.if1.false
+in-range : (c : Else-not-is_in_range) → let a = c.args in (is_client a.z a.c && is_position a.z a.i) ≡ true
+in-range c = sym c.is_in_range.ensures ∙ not-false _ c.if-not-is_in_range.false-raw
 
-idle : (c : tie.Else2) → let a = c.before.before.before.before.args in (has_write (client_of a.client).hand || leb 1 (client_of a.client).round) ≡ false
-idle c = sym c.before.is-busy.ensures ∙ c.if2.false
+idle : (c : Else-is_busy) → let a = c.args in (has_write (client_of a.client).hand || leb 1 (client_of a.client).round) ≡ false
+idle c = sym c.is_busy.ensures ∙ c.if-is_busy.false
 
 pub returns-then-not-is_in_range : goal.returns-then-not-is_in_range
 returns-then-not-is_in_range c value blocks differences = let a = c.args in
@@ -26,24 +27,24 @@ returns-then-not-is_in_range c value blocks differences = let a = c.args in
 
 pub returns-then-is_busy : goal.returns-then-is_busy
 returns-then-is_busy c value blocks differences = let a = c.args in
-    steps-refused (swap-busy a.z a.c a.i (node_of a.node) (client_of a.client) (in-range c) (sym c.is_busy.ensures ∙ c.if-is_busy.true))
+    steps-refused (swap-busy a.z a.c a.i (node_of a.node) (client_of a.client) (in-range (goal.at.returns-then-is_busy c).Else-not-is_in_range) (sym c.is_busy.ensures ∙ c.if-is_busy.true))
     c.refused-then-is_busy.ensures
 
 pub returns-in-Refused : goal.returns-in-Refused
 returns-in-Refused c value blocks differences = let a = c.args in
-    steps-refused (swap-refused a.z a.c a.i (node_of a.node) (client_of a.client) (in-range c) (idle c)
+    steps-refused (swap-refused a.z a.c a.i (node_of a.node) (client_of a.client) (in-range (goal.at.returns-in-Refused c).Else-not-is_in_range) (idle (goal.at.returns-in-Refused c).Else-is_busy)
     (sym c.in-Refused.is ∙ c.swap-step.ensures.answered))
     c.refused-in-Refused.ensures
 
 pub returns-then-client-ge-LIMIT : goal.returns-then-client-ge-LIMIT
 returns-then-client-ge-LIMIT c value blocks differences = let a = c.args in
-    steps-refused (swap-full a.z a.c a.i (node_of a.node) (client_of a.client) (in-range c) (idle c)
+    steps-refused (swap-full a.z a.c a.i (node_of a.node) (client_of a.client) (in-range (goal.at.returns-then-client-ge-LIMIT c).Else-not-is_in_range) (idle (goal.at.returns-then-client-ge-LIMIT c).Else-is_busy)
     (sym c.in_default.is ∙ c.swap-step.ensures.answered) (rw ids-count c.if-client-ge-LIMIT.true))
     c.refused-then-client-ge-LIMIT.ensures
 
 pub returns-then-client-ge-WRITES : goal.returns-then-client-ge-WRITES
 returns-then-client-ge-WRITES c value blocks differences = let a = c.args in
-    steps-refused (swap-exhausted a.z a.c a.i (node_of a.node) (client_of a.client) (in-range c) (idle c)
+    steps-refused (swap-exhausted a.z a.c a.i (node_of a.node) (client_of a.client) (in-range (goal.at.returns-then-client-ge-WRITES c).Else-not-is_in_range) (idle (goal.at.returns-then-client-ge-WRITES c).Else-is_busy)
     (sym c.in_default.is ∙ c.swap-step.ensures.answered) (rw ids-count c.if-client-ge-LIMIT.false) c.if-client-ge-WRITES.true)
     c.refused-then-client-ge-WRITES.ensures
 
@@ -53,6 +54,6 @@ begin-requires c = (c.requires, c.if-client-ge-WRITES.false)
 pub returns : goal.returns
 returns c value blocks differences = let a = c.args in
     let id = c.next_id-id.ensures in
-    steps-made (swap-free a.z a.c a.i (node_of a.node) (client_of a.client) (in-range c) (idle c)
+    steps-made (swap-free a.z a.c a.i (node_of a.node) (client_of a.client) (in-range (goal.at.returns c).Else-not-is_in_range) (idle (goal.at.returns c).Else-is_busy)
     (sym c.in_default.is ∙ c.swap-step.ensures.answered) (rw ids-count c.if-client-ge-LIMIT.false) c.if-client-ge-WRITES.false)
     refl (rw (c.in_default.is, id) at c.swap-step.ensures.left) (rw id at c.begin.ensures)

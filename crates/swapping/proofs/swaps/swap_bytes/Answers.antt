@@ -7,4 +7,4 @@ use Rattle.swapping.proofs.swaps.swap_bytes.Goals as goal
 pub returns : goal.returns
 unfolding set_part
 returns c = let swapped = c.swap_block.ensures in
-    record { blocks = simp swapped.0; differences = simp (swapped.1, add-sub_cancel_left) }
+    record { blocks = simp swapped.block; differences = simp (swapped.difference, add-sub_cancel_left) }

@@ -11,19 +11,18 @@ use Rattle.sweeping.proofs.Checking.{check-empty}
 use Rattle.calls.proofs.Returns.{guards, holds, refused-of-client}
 use Rattle.limits.proofs.Within.{lent-within}
 use Rattle.sweeping.proofs.checks.check.Goals as goal
+use Rattle.sweeping.proofs.checks.check.Goals.{Else-not-is_in_range, Start}
 
-abbrev lent : tie.Start → List ℕ → List ℕ → Local
-lent s blocks differences = local (node_of s.args.node) (client_of s.args.client) blocks differences
+abbrev lent : Start → List ℕ → List ℕ → Local
+lent c blocks differences = local (node_of c.args.node) (client_of c.args.client) blocks differences
 
 -- past these tests
-passed : (c : tie.Else2) (blocks differences : List ℕ) →
-    let s = c.before.before.before.before in
-    let a = s.args in
-    Writing.check_write a.j (client_of a.client).hand (lent s blocks differences) ≡ Writing.check a.z a.c a.j (lent s blocks differences)
+passed : (c : Else-not-is_in_range) (blocks differences : List ℕ) →
+    let a = c.args in
+    Writing.check_write a.j (client_of a.client).hand (lent (goal.at.Else-not-is_in_range c).Start blocks differences) ≡ Writing.check a.z a.c a.j (lent (goal.at.Else-not-is_in_range c).Start blocks differences)
 unfolding Writing.check
 passed c blocks differences =
-    let at-limits = c.before.before in
-    search (guards, at-limits.before.is_Within.ensures, at-limits.if1.false, c.before.is_in_range.ensures, c.if2.false)
+    search (guards, c.is_within.ensures, c.if-not-is_within.false-raw, c.is_in_range.ensures, c.if-not-is_in_range.false-raw)
 
 pub returns-then-not-is_within : goal.returns-then-not-is_within
 unfolding Writing.check
@@ -40,7 +39,7 @@ check_write-requires c = let a = c.args in
 
 pub returns-in-Empty : goal.returns-in-Empty
 returns-in-Empty c blocks differences = refused-of-client c.refused-in-Empty.ensures
-    (check-empty c.args.j c.args.client (lent c blocks differences) c.in-Empty.is ∙ passed c blocks differences)
+    (check-empty c.args.j c.args.client (lent (goal.at.returns-in-Empty c).Start blocks differences) c.in-Empty.is ∙ passed (goal.at.returns-in-Empty c).Else-not-is_in_range blocks differences)
 
 pub returns-in-Holding : goal.returns-in-Holding
-returns-in-Holding c blocks differences = rw (← passed c blocks differences) (c.check_write.ensures blocks differences)
+returns-in-Holding c blocks differences = rw (← passed (goal.at.returns-in-Holding c).Else-not-is_in_range blocks differences) (c.check_write.ensures blocks differences)

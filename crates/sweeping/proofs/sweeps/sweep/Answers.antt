@@ -10,19 +10,17 @@ use Rattle.calls.specs.Answers.{local}
 use Rattle.sweeping.specs.Sweeping.{sweep_node}
 use Rattle.calls.proofs.Returns.{guards, holds, refused-at-node}
 use Rattle.sweeping.proofs.sweeps.sweep.Goals as goal
+use Rattle.sweeping.proofs.sweeps.sweep.Goals.{Else-has_write, Start}
 
-abbrev lent : tie.Start → List ℕ → List ℕ → Local
-lent s blocks differences = local (node_of s.args.node) (client_of s.args.client) blocks differences
+abbrev lent : Start → List ℕ → List ℕ → Local
+lent c blocks differences = local (node_of c.args.node) (client_of c.args.client) blocks differences
 
 -- past these tests
-passed : (c : tie.Else3) (blocks differences : List ℕ) →
-    let s = c.before.before.before.before.before.before in
-    sweep_node s.args.z (lent s blocks differences) ≡ Writing.sweep s.args.z s.args.c (lent s blocks differences)
+passed : (c : Else-has_write) (blocks differences : List ℕ) →
+    sweep_node c.args.z (lent (goal.at.Else-has_write c).Start blocks differences) ≡ Writing.sweep c.args.z c.args.c (lent (goal.at.Else-has_write c).Start blocks differences)
 unfolding Writing.sweep
 passed c blocks differences =
-    let at-range = c.before.before in
-    let at-limits = at-range.before.before in
-    search (guards, at-limits.before.is_Within.ensures, at-limits.if1.false, at-range.before.is-client.ensures, at-range.if2.false, c.before.has-write.ensures, c.if3.false)
+    search (guards, c.is_within.ensures, c.if-not-is_within.false-raw, c.is_client.ensures, c.if-not-is_client.false-raw, c.has_write.ensures, c.if-has_write.false)
 
 pub returns-then-not-is_within : goal.returns-then-not-is_within
 unfolding Writing.sweep
@@ -41,4 +39,4 @@ pub sweep_node-requires : goal.sweep_node-requires
 sweep_node-requires c = holds c.is_within.ensures c.if-not-is_within.false-raw
 
 pub returns : goal.returns
-returns c blocks differences = rw (← passed c blocks differences) (c.sweep_node.ensures blocks differences)
+returns c blocks differences = rw (← passed (goal.at.returns c).Else-has_write blocks differences) (c.sweep_node.ensures blocks differences)

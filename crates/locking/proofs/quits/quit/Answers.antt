@@ -1,0 +1,21 @@
+-- By the tests. Assumes nothing.
+use mathlib.Core.Path.{refl}
+use borrow.Author.Rules.{rules}
+use Rattle.machine.specs.Stripe.{guard}
+use Rattle.machine.specs.Rebuild.{quit}
+use Rattle.rebuild.proofs.Stepping.{steps-refused, steps-left, steps-turned, steps_on}
+use Rattle.locking.proofs.quits.quit.Goals as goal
+
+pub returns-in-Refused : goal.returns-in-Refused
+unfolding quit
+returns-in-Refused c nodes blocks spare t = steps-turned t c.entrance.ensures _ c.in-Refused.is c.refused.ensures
+
+pub returns-then-has_rebuild : goal.returns-then-has_rebuild
+unfolding quit guard
+returns-then-has_rebuild c nodes blocks spare t = steps_on t c.entrance.ensures c.in-Accepted.is
+    (steps-left t refl (rw (c.expire.ensures, c.end_rebuild.ensures, ← c.has_rebuild.ensures, c.if-has_rebuild.true)) _)
+
+pub returns-else-has_rebuild : goal.returns-else-has_rebuild
+unfolding quit guard
+returns-else-has_rebuild c nodes blocks spare t = steps_on t c.entrance.ensures c.in-Accepted.is
+    (steps-refused t c.refused-else-has_rebuild.ensures (rw (← c.has_rebuild.ensures, c.if-has_rebuild.false)))
