@@ -1,5 +1,6 @@
 // Change request C-13: a stripe is written to an image (docs/IMAGE.md), by value.
 #![tactic(auto)]
+
 mod fits; // fits.rt: whether a stripe may be written
 mod head; // head.rt: the header and the sizes
 mod sections; // sections.rt: the tables of records

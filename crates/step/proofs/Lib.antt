@@ -2,4 +2,3 @@ pub mod Items
 pub mod Playing
 pub mod Records
 pub mod Shapes
-pub mod Types

@@ -18,7 +18,7 @@ use Rattle.step.proofs.Items.{seen_same}
 use Rattle.step.specs.contracts.clients.Clients.{the_type}
 
 pub eight : (x : Clients) (vs : List Val) → Is (row the_type) x vs → length x.items ≡ 8
-eight x vs g = sym (length-map x.items _) ∙ g.1.1.0.1.0.1
+eight x vs g = g.1.1.0.1.0.1
 
 pub clients-fresh : (x : ClientRecord) → client_of x ≡ fresh_client → (m : ℕ) → m ≤ 8 → clients_of m (record { items = replicate 8 x }) ≡ replicate m fresh_client
 clients-fresh x e m h = seen_same client_of blank_client m 8 x h ∙ ap (replicate m) e

@@ -1,6 +1,7 @@
 // A stripe's calls as one: every call but read and pick as a step of one node's record and of its client's, and any call on a stripe by value, whose
 // contract is the machine's step; a read also with the part that it shows.
 #![tactic(auto)]
+
 mod clients; // clients.rt: the records of all clients
 mod nodes; // nodes.rt: one node of a stripe, or the failed one where there is none
 mod plays; // plays.rt: any call on a stripe by value

@@ -1,5 +1,6 @@
 // A call on the records that were taken out of their tables: what is looked for, the step by value, what is put back. The tables are in crate shelf.
 #![tactic(auto)]
+
 mod images; // images.rt: an image, of the records of all nodes and all clients
 mod picks; // picks.rt: a pick, on the records of all nodes
 mod reads; // reads.rt: a read, on the records that it goes by

@@ -1,0 +1,7 @@
+-- Eight fresh records. Assumes nothing.
+use borrow.Author.Rules.{rules}
+use Rattle.step.proofs.Records.{clients-fresh}
+use Rattle.step.proofs.clients.Clients.fresh.Goals as goal
+
+pub returns : goal.returns
+returns c = clients-fresh c.fresh-client.result c.fresh-client.ensures

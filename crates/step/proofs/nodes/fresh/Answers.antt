@@ -1,0 +1,7 @@
+-- Eighteen fresh records. Assumes nothing.
+use borrow.Author.Rules.{rules}
+use Rattle.step.proofs.Records.{nodes-fresh}
+use Rattle.step.proofs.nodes.fresh.Goals as goal
+
+pub returns : goal.returns
+returns c = nodes-fresh c.fresh-node.result c.fresh-node.ensures

@@ -1,0 +1,6 @@
+-- What becomes of the nodes, and the client. Assumes nothing.
+use borrow.Author.Rules.{rules}
+use Rattle.step.proofs.plays.put_picked.Goals as goal
+
+pub returns : goal.returns
+returns c = record { nodes = c.change-nodes.ensures; clients = c.set-clients.ensures }

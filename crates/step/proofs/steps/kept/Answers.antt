@@ -1,0 +1,6 @@
+-- The change is none. Assumes nothing.
+use borrow.Author.Rules.{rules}
+use Rattle.step.proofs.steps.kept.Goals as goal
+
+pub returns : goal.returns
+returns c = rw c.keep-change.ensures

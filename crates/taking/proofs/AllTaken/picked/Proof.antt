@@ -1,9 +1,0 @@
--- `taking::AllTaken::picked` meets its contract: it hands on what the pick left, and puts no node back. Assumes nothing.
-use mathlib.Core.Path.{refl}
-use borrow.Author.Rules.{rules}
-use Rattle.taking.proofs.AllTaken.picked.Statement.{statement}
-use Rattle.taking.proofs.AllTaken.picked.Tie as tie
-
-pub picked-spec : {M : Type 1} → statement M
-picked-spec =
-    tie.close (tie.spec (λ c κs. search rules) (λ c. record { answer_is = refl; client_is = refl; change_is = refl; j_is = refl; len = refl }))

@@ -1,0 +1,7 @@
+-- `taking::Found::none` meets its contract. Assumes nothing.
+use mathlib.Core.Path.{refl}
+use borrow.Author.Rules.{rules}
+use Rattle.taking.proofs.Found.none.Goals as goal
+
+pub returns : goal.returns
+returns c = rw (c.begin.ensures.0, c.begin-looked.ensures.0) refl
