@@ -1,11 +1,2 @@
-pub mod Each
 pub mod Insides
 pub mod Part
-pub mod Parts
-pub mod ReadPart
-pub mod Renew
-pub mod Sent
-pub mod Sliced
-pub mod Playing
-pub mod Steps
-pub mod Route

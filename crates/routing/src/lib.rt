@@ -1,6 +1,7 @@
 // A volume's call on its way to its stripes: the volume's own tests, the stripes that the call goes to, what it is in each of them, and the part of each
 // table that is the stripe's own. All by value; the tables are in crate volumeshelf.
 #![tactic(auto)]
+
 mod reads; // reads.rt: a read on its way to its stripe
 mod walks; // walks.rt: a call on its way over the stripes
 

@@ -1,6 +1,7 @@
 // A volume's tables: its limits, the lengths of its tables, the part of each that is a stripe's own, and fresh ones. All by value; the calls on the tables
 // are in crate volumeshelf.
 #![tactic(auto)]
+
 mod volumes; // volumes.rt: a volume's tables, and the parts of its stripes
 
 use records::Sizes;

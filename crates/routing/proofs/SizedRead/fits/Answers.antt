@@ -1,0 +1,33 @@
+-- The tests, in order. Assumes nothing.
+use borrow.Author.Rules.{rules}
+use borrow.Author.Tests.{eq-eqb, ne_eqb}
+use Rattle.routing.proofs.SizedRead.fits.Goals as goal
+
+pub returns-then-self-lengths : goal.returns-then-self-lengths
+returns-then-self-lengths c = rw (
+  ← c.lengths-lengths.ensures,
+  ← c.within.ensures,
+  c.if-within.true,
+  eq-eqb _ _ c.if-nodes-lengths.true,
+  eq-eqb _ _ c.if-clients-lengths.true,
+  eq-eqb _ _ c.if-self-lengths.true,
+)
+
+pub returns-else-self-lengths : goal.returns-else-self-lengths
+returns-else-self-lengths c = rw (
+  ← c.lengths-lengths.ensures,
+  ← c.within.ensures,
+  c.if-within.true,
+  eq-eqb _ _ c.if-nodes-lengths.true,
+  eq-eqb _ _ c.if-clients-lengths.true,
+  ne_eqb _ _ c.if-self-lengths.false,
+)
+
+pub returns-else-clients-lengths : goal.returns-else-clients-lengths
+returns-else-clients-lengths c = rw (← c.lengths-lengths.ensures, ← c.within.ensures, c.if-within.true, eq-eqb _ _ c.if-nodes-lengths.true, ne_eqb _ _ c.if-clients-lengths.false)
+
+pub returns-else-nodes-lengths : goal.returns-else-nodes-lengths
+returns-else-nodes-lengths c = rw (← c.lengths-lengths.ensures, ← c.within.ensures, c.if-within.true, ne_eqb _ _ c.if-nodes-lengths.false)
+
+pub returns-else-within : goal.returns-else-within
+returns-else-within c = rw (← c.within.ensures, c.if-within.false)

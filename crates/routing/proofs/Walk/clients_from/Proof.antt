@@ -1,7 +1,0 @@
--- The part of a table of a stripe's. Assumes nothing.
-use borrow.Author.Rules.{rules}
-use Rattle.routing.proofs.Walk.clients_from.Statement.{statement}
-use Rattle.routing.proofs.Walk.clients_from.Tie as tie
-
-pub clients-from-spec : {M : Type 1} → statement M
-clients-from-spec = tie.close (tie.spec (λ c κs. search rules) (λ c. c.part-from.ensures))

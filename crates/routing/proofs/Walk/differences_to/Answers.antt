@@ -1,0 +1,7 @@
+-- The part of a table of a stripe's. Assumes nothing.
+use mathlib.Core.Path.{◌∙◌}
+use borrow.Author.Rules.{rules}
+use Rattle.routing.proofs.Walk.differences_to.Goals as goal
+
+pub returns : goal.returns
+returns c = c.part_to.ensures ∙ rw c.table_differences.ensures

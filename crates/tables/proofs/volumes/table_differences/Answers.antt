@@ -1,0 +1,17 @@
+-- The tests, in order. Assumes nothing.
+use native.Mathlib.Nat.{mul-le-mul}
+use native.Mathlib.Omega.{arith}
+use borrow.Author.Tests.{le-leb, lt-leb}
+use Rattle.tables.proofs.volumes.table_differences.Goals as goal
+
+pub returns-then-z-gt-CLIENTS : goal.returns-then-z-gt-CLIENTS
+returns-then-z-gt-CLIENTS c = rw (lt-leb _ _ c.if-z-gt-CLIENTS.true)
+
+pub returns-then-z-gt-BLOCK_MOST : goal.returns-then-z-gt-BLOCK_MOST
+returns-then-z-gt-BLOCK_MOST c = rw (le-leb _ _ c.if-z-gt-CLIENTS.false, lt-leb _ _ c.if-z-gt-BLOCK_MOST.true)
+
+pub overflow_mul-result : goal.overflow_mul-result
+overflow_mul-result c = omega (arith, mul-le-mul c.if-z-gt-CLIENTS.false c.if-z-gt-BLOCK_MOST.false)
+
+pub returns : goal.returns
+returns c = rw (le-leb _ _ c.if-z-gt-CLIENTS.false, le-leb _ _ c.if-z-gt-BLOCK_MOST.false)
