@@ -1,5 +1,6 @@
 // The library for C and Rust. No function asks anything of its arguments.
 #![tactic(auto)]
+
 ghost use Rattle.std.specs.Prelude.{◌≡◌};
 ghost use Rattle.gf256.specs.Field.{product};
 ghost use Rattle.code.specs.Calls.{encoding, decoding};
