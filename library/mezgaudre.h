@@ -1,4 +1,4 @@
-/* Mezgaudre's erasure code over GF(256), a volume's layout and the length of a stripe's image, proved: link with libexports.a, which `rt staticlib exports` makes.
+/* Mezgaudre's erasure code over GF(256), a volume's layout and the length of a stripe's image, proved: link with libexports.a, which `rt lib` in crates/exports makes.
 
    A pointer, not null, and the number of bytes behind it stand for a buffer. The caller lends buffers that hold that many bytes,
    and one that a call writes overlaps no other. No call asks more than that: wrong sizes and lengths have their answers. */

@@ -3,10 +3,11 @@
 set -euo pipefail
 cd "$(dirname "$0")/.."
 built=target/library
+library=crates/exports/out
 mkdir -p "$built"
-rt staticlib exports > "$built/staticlib.log" 2>&1 || { cat "$built/staticlib.log" >&2; exit 1; }
-cc -std=c11 -O2 -Wall -Wextra -Werror -o "$built/example_c" library/example.c target/staticlib/libexports.a
-rustc --edition 2021 -O --crate-type rlib -D warnings -L target/staticlib --out-dir "$built" library/rust/mezgaudre.rs
+(cd crates/exports && rt lib) > "$built/lib.log" 2>&1 || { cat "$built/lib.log" >&2; exit 1; }
+cc -std=c11 -O2 -Wall -Wextra -Werror -o "$built/example_c" library/example.c "$library/libexports.a"
+rustc --edition 2021 -O --crate-type rlib -D warnings -L "$library" --out-dir "$built" library/rust/mezgaudre.rs
 rustc --edition 2021 -O -D warnings --extern mezgaudre="$built/libmezgaudre.rlib" -o "$built/example_rust" library/rust/example.rs
 "$built/example_c" > "$built/example_c.out" || { cat "$built/example_c.out" >&2; exit 1; }
 "$built/example_rust" > "$built/example_rust.out" || { cat "$built/example_rust.out" >&2; exit 1; }

@@ -67,23 +67,30 @@ CALLERS = {
 
 RIGHT = {
     "crates/small/src/lib.rt": """// if a == 0 && b == 0: a comment is no code
+#![tactic(auto)]
+ghost use Rattle.std.specs.Prelude.{◌≡◌, ◌<◌, ◌≤◌, ◌×◌, ◌==◌, ◌*◌, ℕ};
+
 use tables::power;
 
+#[derive(Clone, Copy)]
 pub struct Pair {
     iffy: u8,
+    ghost seen: { ℕ },
 }
 
 impl Pair {
     fn sum(self) -> u8
-        ensures { λ r. ⌜ r ≡ self .iffy ⌝ }
+        ensures { result ≡ self.iffy }
     {
         self.iffy ^ 1
     }
 }
 
+#[tactic(auto, using(Rattle.small.proofs.Laws.law))]
 pub fn product(a: u8, b: u8) -> u8
-    requires { ⌜ (a < 256) × (b ≤ 255) ⌝ }
-    ensures { λ r. ⌜ (0 < a → r ≡ a * b) × ({s : ℕ} → s == s) ⌝ }
+    requires { (a < 256) × (b ≤ 255) }
+    ensures times { 0 < a → result ≡ a * b }
+    ensures same { {s : ℕ} → s == s }
 {
     let p = Pair { iffy: a };
     p.sum() ^ inner(a, b)

@@ -76,6 +76,15 @@ def next_text(tokens, at, text):
     return at
 
 
+def ghost_end(tokens, at):
+    """The place of the last token of a ghost item: a `use` line has its `;`, another its braces, or else a comma."""
+    if tokens[at + 1].text == "use":
+        return next_text(tokens, at, ";")
+    while tokens[at].text not in ("{", ",", ";"):
+        at += 1
+    return matching(tokens, at) if tokens[at].text == "{" else at
+
+
 class Source:
     def __init__(self, files):
         self.functions = {}  # by path
@@ -100,7 +109,7 @@ class Source:
             if at >= owner_ends:
                 owner = None
             if text == "ghost":
-                at = next_text(tokens, at, ";")
+                at = ghost_end(tokens, at)
             elif text == "use":
                 end = next_text(tokens, at, ";")
                 uses.update(used_names(tokens[at + 1 : end]))
