@@ -7,6 +7,8 @@ mod field; // field.rt: the tables, all products, the inverses
 mod line; // line.rt: a line of text
 mod sets; // sets.rt: sets of nodes as numbers
 
+use std::io::Result;
+
 // The sizes of a case: k data nodes of n, and blocks of b bytes.
 #[derive(Clone, Copy)]
 struct Sizes {
@@ -15,7 +17,8 @@ struct Sizes {
     b: usize,
 }
 
-fn main() {
-    field::print();
-    cases::print();
+fn main(rt: HostRuntime) -> Result<()> {
+    let mut to = rt.stdout();
+    field::print(&mut to)?;
+    cases::print(&mut to)
 }
