@@ -1,5 +1,6 @@
 // Prints the text whose rules stand at the head of reference/codecheck.py.
 #![tactic(auto)]
+
 mod cases; // cases.rt: the cases of the code
 mod checksum; // checksum.rt: the checksum of a run of bytes
 mod decodings; // decodings.rt: a case's tables decoded from all sets of k nodes

@@ -1,5 +1,6 @@
 // Answers planning calls: each line of standard input, `n-k G t_p`, gives `LIMIT yes`, `LIMIT no` or `1`.
 #![tactic(auto)]
+
 mod printing; // printing.rt: an answer's line
 mod reader; // reader.rt: a line, read byte by byte
 

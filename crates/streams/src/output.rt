@@ -47,7 +47,12 @@ fn put_byte<W: Write>(to: &mut W, out: &mut [u8], at: usize, byte: u8) -> Result
     put(to, out, low, hexadecimal(byte % 16))
 }
 
-pub fn put_bytes<W: Write>(to: &mut W, out: &mut [u8], mut at: usize, bytes: &[u8]) -> Result<usize> {
+pub fn put_bytes<W: Write>(
+    to: &mut W,
+    out: &mut [u8],
+    mut at: usize,
+    bytes: &[u8],
+) -> Result<usize> {
     for i in 0..bytes.len() {
         at = put_byte(to, out, at, bytes[i])?;
     }
@@ -65,12 +70,28 @@ pub fn put_number<W: Write>(to: &mut W, out: &mut [u8], at: usize, n: u64) -> Re
 }
 
 // A number, and the character after it.
-pub fn put_number_and<W: Write>(to: &mut W, out: &mut [u8], at: usize, n: u64, c: u8) -> Result<usize> {
+pub fn put_number_and<W: Write>(
+    to: &mut W,
+    out: &mut [u8],
+    at: usize,
+    n: u64,
+    c: u8,
+) -> Result<usize> {
     let next = put_number(to, out, at, n)?;
     put(to, out, next, c)
 }
 
 // What stands between an item of a list and the one before; nothing before item 0.
-pub fn put_between<W: Write>(to: &mut W, out: &mut [u8], at: usize, item: usize, c: u8) -> Result<usize> {
-    if item == 0 { Ok(at) } else { put(to, out, at, c) }
+pub fn put_between<W: Write>(
+    to: &mut W,
+    out: &mut [u8],
+    at: usize,
+    item: usize,
+    c: u8,
+) -> Result<usize> {
+    if item == 0 {
+        Ok(at)
+    } else {
+        put(to, out, at, c)
+    }
 }
