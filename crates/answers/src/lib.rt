@@ -1,5 +1,6 @@
 // An answer, and what is returned with it, as text.
 #![tactic(auto)]
+
 mod images; // images.rt: the image of a stripe
 
 ghost use Rattle.std.specs.Prelude.{◌≤◌};
@@ -15,7 +16,12 @@ use step::Clients;
 use streams::output::{put, put_bytes, put_number, put_number_and, put_text};
 
 // What was picked: the set, and E.
-fn put_picked<W: Write>(to: &mut W, out: &mut [u8], mut at: usize, client: ClientRecord) -> Result<usize> {
+fn put_picked<W: Write>(
+    to: &mut W,
+    out: &mut [u8],
+    mut at: usize,
+    client: ClientRecord,
+) -> Result<usize> {
     let phase = client.phase;
     let Phase::Writing(_, set, epoch) = phase else {
         return put(to, out, at, b'-');
@@ -27,7 +33,13 @@ fn put_picked<W: Write>(to: &mut W, out: &mut [u8], mut at: usize, client: Clien
 }
 
 // The block that a read shows, and where it lies.
-fn put_block_read<W: Write>(to: &mut W, out: &mut [u8], mut at: usize, source: Source, shown: &[u8]) -> Result<usize> {
+fn put_block_read<W: Write>(
+    to: &mut W,
+    out: &mut [u8],
+    mut at: usize,
+    source: Source,
+    shown: &[u8],
+) -> Result<usize> {
     at = put_text(to, out, at, b"block=")?;
     at = put_bytes(to, out, at, shown)?;
     match source {
@@ -71,7 +83,14 @@ fn put_finding<W: Write>(to: &mut W, out: &mut [u8], at: usize, finding: Finding
 }
 
 // What is returned with the acceptance of a call that has no word of its own; the client that picks, or 0.
-fn put_accepted<W: Write>(to: &mut W, out: &mut [u8], at: usize, m: usize, picker: u8, clients: Clients) -> Result<usize>
+fn put_accepted<W: Write>(
+    to: &mut W,
+    out: &mut [u8],
+    at: usize,
+    m: usize,
+    picker: u8,
+    clients: Clients,
+) -> Result<usize>
     requires { m ≤ client_limit }
 {
     if picker == 0 {

@@ -5,7 +5,12 @@ use records::{ClientRecord, Hand};
 use std::io::{Result, Write};
 use streams::output::{put, put_number, put_number_and, put_text};
 
-fn put_previous<W: Write>(to: &mut W, out: &mut [u8], at: usize, previous: Previous) -> Result<usize> {
+fn put_previous<W: Write>(
+    to: &mut W,
+    out: &mut [u8],
+    at: usize,
+    previous: Previous,
+) -> Result<usize> {
     match previous {
         Previous::Nothing => put_text(to, out, at, b"none"),
         Previous::Id(id) => put_id(to, out, at, id),
@@ -13,7 +18,12 @@ fn put_previous<W: Write>(to: &mut W, out: &mut [u8], at: usize, previous: Previ
 }
 
 // `position/id/previous or none/epoch/DONE`.
-fn put_write<W: Write>(to: &mut W, out: &mut [u8], mut at: usize, write: records::Write) -> Result<usize> {
+fn put_write<W: Write>(
+    to: &mut W,
+    out: &mut [u8],
+    mut at: usize,
+    write: records::Write,
+) -> Result<usize> {
     let id = write.id;
     let previous = write.previous;
     let done = write.done;
@@ -34,7 +44,13 @@ fn put_hand<W: Write>(to: &mut W, out: &mut [u8], at: usize, hand: Hand) -> Resu
 }
 
 // `c:HAND,`.
-fn put_number_and_hand<W: Write>(to: &mut W, out: &mut [u8], mut at: usize, c: usize, client: ClientRecord) -> Result<usize> {
+fn put_number_and_hand<W: Write>(
+    to: &mut W,
+    out: &mut [u8],
+    mut at: usize,
+    c: usize,
+    client: ClientRecord,
+) -> Result<usize> {
     let hand = client.hand;
     at = put_number_and(to, out, at, c as u64, b':')?;
     at = put_hand(to, out, at, hand)?;
@@ -42,7 +58,12 @@ fn put_number_and_hand<W: Write>(to: &mut W, out: &mut [u8], mut at: usize, c: u
 }
 
 // `FINISHED,MOVED,`.
-fn put_lists<W: Write>(to: &mut W, out: &mut [u8], mut at: usize, client: ClientRecord) -> Result<usize> {
+fn put_lists<W: Write>(
+    to: &mut W,
+    out: &mut [u8],
+    mut at: usize,
+    client: ClientRecord,
+) -> Result<usize> {
     let finished = client.finished;
     let moved = client.moved;
     at = put_ids(to, out, at, finished)?;
@@ -52,7 +73,13 @@ fn put_lists<W: Write>(to: &mut W, out: &mut [u8], mut at: usize, client: Client
 }
 
 // `c:HAND,FINISHED,MOVED,SWEEP,NEXT`.
-pub fn put_client<W: Write>(to: &mut W, out: &mut [u8], mut at: usize, c: usize, client: ClientRecord) -> Result<usize> {
+pub fn put_client<W: Write>(
+    to: &mut W,
+    out: &mut [u8],
+    mut at: usize,
+    c: usize,
+    client: ClientRecord,
+) -> Result<usize> {
     at = put_number_and_hand(to, out, at, c, client)?;
     at = put_lists(to, out, at, client)?;
     at = put_number_and(to, out, at, client.round as u64, b',')?;

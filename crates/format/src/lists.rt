@@ -37,7 +37,13 @@ pub fn put_id<W: Write>(to: &mut W, out: &mut [u8], mut at: usize, id: WriteId) 
     put_number(to, out, at, id.number.0 as u64)
 }
 
-fn put_listed_id<W: Write>(to: &mut W, out: &mut [u8], at: usize, i: usize, id: WriteId) -> Result<usize> {
+fn put_listed_id<W: Write>(
+    to: &mut W,
+    out: &mut [u8],
+    at: usize,
+    i: usize,
+    id: WriteId,
+) -> Result<usize> {
     let next = put_between(to, out, at, i, b';')?;
     put_id(to, out, next, id)
 }
@@ -66,13 +72,24 @@ fn put_entry<W: Write>(to: &mut W, out: &mut [u8], mut at: usize, entry: Entry) 
     put_number(to, out, at, entry.age.0 as u64)
 }
 
-fn put_listed_entry<W: Write>(to: &mut W, out: &mut [u8], at: usize, i: usize, entry: Entry) -> Result<usize> {
+fn put_listed_entry<W: Write>(
+    to: &mut W,
+    out: &mut [u8],
+    at: usize,
+    i: usize,
+    entry: Entry,
+) -> Result<usize> {
     let next = put_between(to, out, at, i, b';')?;
     put_entry(to, out, next, entry)
 }
 
 // The entries in order of arrival, joined by `;`.
-pub fn put_entries<W: Write>(to: &mut W, out: &mut [u8], mut at: usize, entries: Entries) -> Result<usize> {
+pub fn put_entries<W: Write>(
+    to: &mut W,
+    out: &mut [u8],
+    mut at: usize,
+    entries: Entries,
+) -> Result<usize> {
     let count = least(entries.count, Entries::LIMIT);
     if count == 0 {
         return put(to, out, at, b'-');

@@ -6,7 +6,12 @@ use records::{Holder, Lmode, NodeRecord, Opmode};
 use std::io::{Result, Write};
 use streams::output::{put, put_bytes, put_number, put_number_and, put_text};
 
-pub fn put_opmode<W: Write>(to: &mut W, out: &mut [u8], at: usize, opmode: Opmode) -> Result<usize> {
+pub fn put_opmode<W: Write>(
+    to: &mut W,
+    out: &mut [u8],
+    at: usize,
+    opmode: Opmode,
+) -> Result<usize> {
     match opmode {
         Opmode::Norm => put_text(to, out, at, b"NORM"),
         Opmode::Recons => put_text(to, out, at, b"RECONS"),
@@ -24,7 +29,13 @@ pub fn put_lmode<W: Write>(to: &mut W, out: &mut [u8], at: usize, lmode: Lmode) 
 }
 
 // `OPMODE,LMODE`.
-pub fn put_modes<W: Write>(to: &mut W, out: &mut [u8], mut at: usize, opmode: Opmode, lmode: Lmode) -> Result<usize> {
+pub fn put_modes<W: Write>(
+    to: &mut W,
+    out: &mut [u8],
+    mut at: usize,
+    opmode: Opmode,
+    lmode: Lmode,
+) -> Result<usize> {
     at = put_opmode(to, out, at, opmode)?;
     at = put(to, out, at, b',')?;
     put_lmode(to, out, at, lmode)
@@ -39,7 +50,12 @@ fn put_holder<W: Write>(to: &mut W, out: &mut [u8], at: usize, holder: Holder) -
 }
 
 // `OPMODE,LMODE,HOLDER,EPOCH,`.
-fn put_scalars<W: Write>(to: &mut W, out: &mut [u8], mut at: usize, node: NodeRecord) -> Result<usize> {
+fn put_scalars<W: Write>(
+    to: &mut W,
+    out: &mut [u8],
+    mut at: usize,
+    node: NodeRecord,
+) -> Result<usize> {
     let opmode = node.opmode;
     let lmode = node.lmode;
     let holder = node.holder;
@@ -51,7 +67,12 @@ fn put_scalars<W: Write>(to: &mut W, out: &mut [u8], mut at: usize, node: NodeRe
 }
 
 // `OPMODE,LMODE,HOLDER,EPOCH,RSET,ENTRIES`.
-fn put_record<W: Write>(to: &mut W, out: &mut [u8], mut at: usize, node: NodeRecord) -> Result<usize> {
+fn put_record<W: Write>(
+    to: &mut W,
+    out: &mut [u8],
+    mut at: usize,
+    node: NodeRecord,
+) -> Result<usize> {
     let rset = node.rset;
     let entries = node.entries;
     at = put_scalars(to, out, at, node)?;
@@ -61,7 +82,14 @@ fn put_record<W: Write>(to: &mut W, out: &mut [u8], mut at: usize, node: NodeRec
 }
 
 // Block j of a table of blocks of b bytes.
-fn put_block<W: Write>(to: &mut W, out: &mut [u8], at: usize, blocks: &[u8], b: usize, j: usize) -> Result<usize>
+fn put_block<W: Write>(
+    to: &mut W,
+    out: &mut [u8],
+    at: usize,
+    blocks: &[u8],
+    b: usize,
+    j: usize,
+) -> Result<usize>
     requires { (1 ≤ j) × ((j - 1) * b + b ≤ length blocks.now) }
 {
     let start = (j - 1) * b;

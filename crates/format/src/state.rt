@@ -12,7 +12,14 @@ use streams::output::{put, put_between, put_bytes, put_text};
 use stripe::Nodes;
 
 // The nodes one space apart.
-fn put_nodes<W: Write>(to: &mut W, out: &mut [u8], mut at: usize, z: Sizes, nodes: Nodes, blocks: &[u8]) -> Result<usize>
+fn put_nodes<W: Write>(
+    to: &mut W,
+    out: &mut [u8],
+    mut at: usize,
+    z: Sizes,
+    nodes: Nodes,
+    blocks: &[u8],
+) -> Result<usize>
     requires { (z.n ≤ node_limit) × (length blocks.now ≡ z.n * z.b) }
 {
     for i in 0..z.n {
@@ -24,7 +31,13 @@ fn put_nodes<W: Write>(to: &mut W, out: &mut [u8], mut at: usize, z: Sizes, node
 }
 
 // The clients one space apart.
-fn put_clients<W: Write>(to: &mut W, out: &mut [u8], mut at: usize, m: usize, clients: Clients) -> Result<usize>
+fn put_clients<W: Write>(
+    to: &mut W,
+    out: &mut [u8],
+    mut at: usize,
+    m: usize,
+    clients: Clients,
+) -> Result<usize>
     requires { m ≤ client_limit }
 {
     for i in 0..m {
@@ -53,7 +66,13 @@ fn put_records<W: Write>(
 }
 
 // ` # SPARE # DIFFERENCES`, and the line's end.
-fn put_tables<W: Write>(to: &mut W, out: &mut [u8], mut at: usize, spare: &[u8], differences: &[u8]) -> Result<usize> {
+fn put_tables<W: Write>(
+    to: &mut W,
+    out: &mut [u8],
+    mut at: usize,
+    spare: &[u8],
+    differences: &[u8],
+) -> Result<usize> {
     at = put_text(to, out, at, b" # ")?;
     at = put_bytes(to, out, at, spare)?;
     at = put_text(to, out, at, b" # ")?;

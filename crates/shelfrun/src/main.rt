@@ -1,5 +1,6 @@
 // The program shelfrun of document 01: a line of output for each line of standard input.
 #![tactic(auto)]
+
 mod answering; // answering.rt: a line answered
 mod feeding; // feeding.rt: the bytes of the input, one after the other
 mod words; // words.rt: the words of an answer

@@ -1,5 +1,6 @@
 // Plays a script on a stripe of any size, and prints everything after each call.
 #![tactic(auto)]
+
 mod lines; // lines.rt: the lines of a script, one after the other
 mod show; // show.rt: what is printed of a call
 mod next_line; // next_line.rt: the next line of standard input

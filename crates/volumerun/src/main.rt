@@ -1,5 +1,6 @@
 // Plays a script on a volume of many stripes, in fixed memory.
 #![tactic(auto)]
+
 ghost use Rattle.std.specs.Prelude.{◌≡◌};
 ghost use Rattle.volumerun.specs.Memory.{Fits, fits_in};
 

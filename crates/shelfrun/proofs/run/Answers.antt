@@ -7,7 +7,7 @@ pub loop-room-init : goal.loop-room-init
 loop-room-init g c = (
   omega (arith, c.new-shelf.ensures.lines_value),
   played-start (g.R.Read.remaining c.args.from.now) (g.W.Write.contents c.args.to.now) c.new-shelf.result c.args.blocks.now c.args.spare.now
-  c.args.differences.now c.new-shelf.ensures.keeps c.requires.blocks_value,
+      c.args.differences.now c.new-shelf.ensures.keeps c.requires.blocks_value,
 )
 
 pub returns-then-n-eq0-clause-reached : goal.returns-then-n-eq0-clause-reached
@@ -23,5 +23,5 @@ loop-room-preserved g c =
     let most : c.in_ok-passed.passed.read ≤ c.loop-room.room = omega (arith, read.0) in (
       omega (arith, read.0, read.1),
       played-more (g.R.Read.remaining c.pass.new.from) (g.W.Write.contents c.write_all.new.self) c.pass.new.input c.in_ok-passed.passed.read c.loop-room.invariant.1 read.0 most c.in_ok-passed.ensures.feeds
-      c.in_ok-passed.ensures.reads c.in_ok-write_all.ensures.bytes,
+          c.in_ok-passed.ensures.reads c.in_ok-write_all.ensures.bytes,
     )
