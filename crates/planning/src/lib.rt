@@ -1,5 +1,6 @@
 // The planning call (change request C-16): how large groups of redundant nodes may be, for so many stopped clients.
 #![tactic(auto)]
+
 ghost use Rattle.std.specs.Prelude.{◌≡◌, ◌≤◌, ◌<◌};
 ghost use Rattle.std.proofs.Math.IntN.{sub_ℕ};
 ghost use Rattle.planning.specs.Planning.{redundant_limit, stop_limit, serial_limit, every_at_most, plan_of, plan_number};
