@@ -168,15 +168,6 @@ fed-all {a = a} {all = all} {text = text} {lines = lines} {begun = begun} {reade
 
 ---- from the start
 
-pub reached-start : (y : Shelf) (blocks spare differences : List ℕ) → Keeps y (replicate 4 0) (replicate 4 0) (replicate 2 0) start
-    → (blocks ≡ replicate 4 0) × (spare ≡ replicate 4 0) × (differences ≡ replicate 2 0) → Reached (Keeps y blocks spare differences)
-unfolding output_of left
-reached-start y blocks spare differences k e = record {
-  input = [];
-  text = [];
-  fed = record { prints = λ x s. refl; leaves = λ x s. rw (s, e.0, e.1, e.2) k };
-}
-
 pub reached-more : {a b : State → Type 0} {l t : List ℕ} → Reached a → Feeds a l t b → Reached b
 reached-more {l = l} {t = t} r f = record { input = r.input ++ l; text = r.text ++ t; fed = feeds-then r.fed f }
 
