@@ -6,7 +6,7 @@ use mathlib.Core.Option.{Option, none, some}
 use Prim.Native.Nat.{ℕ, suc, ◌+◌, ◌≤◌, ◌<◌}
 use native.Mathlib.Numerals.{add-one}
 use native.Mathlib.Omega.{arith}
-use lib.ListN.{length, take, get_or, replicate, length-take}
+use lib.ListN.{length, take, get_or, length-take}
 use lib.Seq.{length-take-le, take-suc, take-append-add, take-append-le}
 use borrow.Author.Tests.{ne_eqb}
 use Rattle.basics.proofs.Lists.{length-list_of}
@@ -22,8 +22,7 @@ use Rattle.script.proofs.Clipping.{Small, clip-call, clip-shelf, clip-event}
 use Rattle.step.specs.declared.Stripe as Player
 use Rattle.step.specs.View.{stripe_of}
 use Rattle.shelfrun.specs.Shelfrun.{State, start, sizes, outcome, output, is_begun, line_output, byte_output, byte_left, output_of, left, last_output, shelfrun}
-use Rattle.shelfrun.specs.Feeding.{Answers, Is, Kept, Keeps, Feeds, Reached}
-use Rattle.shelfrun.specs.declared.feeding.Shelf.{Shelf}
+use Rattle.shelfrun.specs.Feeding.{Answers, Is, Kept, Feeds, Reached}
 use Rattle.shelfrun.proofs.Turns.{one_byte}
 
 ---- bytes after bytes

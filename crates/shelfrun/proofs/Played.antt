@@ -1,5 +1,5 @@
 -- What a reader gives and a writer takes, read by read: the writer holds what the reader's bytes print. Assumes nothing.
-use Rattle.std.specs.Prelude.{◌≡◌, List, [], ◌++◌, ℕ, ◌+◌, ◌-◌, ◌≤◌, Option, None, Some, refl, length, replicate, take}
+use Rattle.std.specs.Prelude.{◌≡◌, List, [], ◌++◌, ℕ, ◌+◌, ◌-◌, ◌≤◌, Option, None, Some, Result, Ok, Err, OnErr, refl, length, replicate, take}
 use Rattle.std.specs.Io.KnownBytes.{Appends, Consumes, IsAtEnd}
 use Rattle.std.proofs.Common.{sym, ◌∙◌, ap, subst, append_assoc, append-nil, arith}
 use Rattle.std.proofs.Math.ListN.{length-append, length-take}
@@ -101,3 +101,8 @@ played-whole {u = Some xs} {u' = Some ys} {w = w} {w' = w'} w'' last p e ended a
     let r = p.reached in
     let all : xs ≡ r.input = p.read ∙ ap (λ (t : List ℕ). r.input ++ t) (ended short) ∙ append-nil r.input in
     subst (λ (t : List ℕ). Appends w w'' t) (whole r last e ∙ ap shelfrun (sym all)) (appends-then w w' w'' r.text last p.wrote a)
+
+-- what holds in any case
+pub after-err : {T E P : Type 0} (r : Result T E) → P → OnErr r P
+after-err (Ok x) p = tt
+after-err (Err e) p = p

@@ -1,6 +1,6 @@
 use Rattle.std.proofs.Common.{arith, ◌≤◌}
 use Rattle.shelfrun.proofs.Bytes.{reached-more}
-use Rattle.shelfrun.proofs.Played.{played-last, played-more, played-start}
+use Rattle.shelfrun.proofs.Played.{after-err, played-last, played-more, played-start}
 use Rattle.shelfrun.proofs.run.Goals as goal
 
 pub loop-room-init : goal.loop-room-init
@@ -25,3 +25,8 @@ loop-room-preserved g c =
       played-more (g.R.Read.remaining c.pass.new.from) (g.W.Write.contents c.write_all.new.self) c.pass.new.input c.in_ok-passed.passed.read c.loop-room.invariant.1 read.0 most c.in_ok-passed.ensures.feeds
           c.in_ok-passed.ensures.reads c.in_ok-write_all.ensures.bytes,
     )
+
+pub returns-in_err-write_all-clause-err : goal.returns-in_err-write_all-clause-err
+returns-in_err-write_all-clause-err g c =
+    after-err c.from_residual-in_err-write_all.result
+    (c.in_ok-passed.passed.shelf, reached-more c.loop-room.invariant.1.played.reached c.in_ok-passed.ensures.feeds)

@@ -1,4 +1,4 @@
-use Rattle.std.proofs.Common.{◌-◌, ◌≡◌, ◌+◌, ◌≤◌, length}
+use Rattle.std.proofs.Common.{◌-◌, ◌+◌, ◌≤◌}
 use Rattle.shelfrun.specs.Feeding.{Keeps}
 use Rattle.shelfrun.proofs.Played.{PlayedWithin}
 use Rattle.shelfrun.proofs.run.Given as goal
