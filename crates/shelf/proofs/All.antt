@@ -2,33 +2,24 @@
 --     all-ends, records-ends       the loop ends within the table, and within the array
 --     all-took, records-took       what is taken
 use mathlib.Core.List.{List}
-use mathlib.Core.Path.{◌≡◌, refl, ◌∙◌}
+use mathlib.Core.Path.{refl, ◌∙◌}
 use Prim.Native.Nat.{ℕ, ◌-◌, ◌≤◌}
 use lib.ListN.{length}
-use denote.Laws.{Is}
-use mir.Val.{Val}
 use Rattle.lent.specs.Ranges.{seen_in}
 use Rattle.records.specs.declared.ClientRecord.{ClientRecord}
 use Rattle.records.specs.declared.NodeRecord.{NodeRecord}
 use Rattle.records.specs.View.{client_of, node_of}
 use Rattle.step.specs.View.{blank_client}
-use Rattle.step.proofs.Records.{eight}
 use Rattle.stripe.specs.View.{blank_record}
-use Rattle.stripe.proofs.NodeLists.{eighteen}
 use Rattle.taking.specs.declared.AllRecords.{AllRecords}
 use Rattle.taking.specs.declared.AllTaken.{AllTaken}
 use Rattle.taking.specs.declared.Found.{Found}
 use Rattle.taking.specs.Images.{ClientsTook, clients_begun, clients_end, clients_seen}
 use Rattle.taking.specs.Picks.{AllTook, all_begun, all_end, all_seen}
-use Rattle.taking.specs.contracts.AllRecords as records
-use Rattle.taking.specs.contracts.AllTaken as all
 use Rattle.shelf.proofs.Gathers.{ends, inside, whole, kept, gathered}
 
 pub all-ends : (f : Found) (len : ℕ) (t : AllTaken) → all_begun f len t → (all_end t ≤ len) × (all_end t ≤ 18)
 all-ends f len t b = (ends 18 t.len len b.0, inside 18 t.len)
-
-pub all-eighteen : (t : AllTaken) (vs : List Val) → Is all.the_row t vs → length t.nodes.items ≡ 18
-all-eighteen t vs g = eighteen t.nodes _ g.1.1.1.0
 
 pub all-took : (ys : List NodeRecord) (f : Found) (t : AllTaken) → all_begun f (length ys) t → AllTook ys f (seen_in all_seen blank_record t ys 0 (all_end t - 0))
 all-took ys f t b = record {
@@ -38,9 +29,6 @@ all-took ys f t b = record {
 
 pub records-ends : (t : AllTaken) (len : ℕ) (x : AllRecords) → clients_begun t len x → (clients_end x ≤ len) × (clients_end x ≤ 8)
 records-ends t len x b = (ends 8 x.len len b.0, inside 8 x.len)
-
-pub records-eight : (x : AllRecords) (vs : List Val) → Is records.the_row x vs → length x.clients.items ≡ 8
-records-eight x vs g = eight x.clients _ g.1.1.1.0
 
 pub records-took : (ys : List ClientRecord) (t : AllTaken) (x : AllRecords) → clients_begun t (length ys) x
     → ClientsTook ys t (seen_in clients_seen blank_client x ys 0 (clients_end x - 0))

@@ -1,4 +1,4 @@
-// The entry points. Each is walked by a law.
+// The entry points.
 ghost use Rattle.shelf.specs.Shelf.{ImagesLent, PicksOnly, StepsLent, ReadsLent};
 ghost use Rattle.taking.specs.Reads.{AnswersLent};
 

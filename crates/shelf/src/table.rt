@@ -1,4 +1,4 @@
-// A table is looked at, and changed. Each of these is walked by a law.
+// A table is looked at, and changed. The loops are of two forms (crate lent).
 ghost use Rattle.taking.specs.Images.{ClientsTook};
 ghost use Rattle.taking.specs.Picks.{AllTook};
 ghost use Rattle.taking.specs.Table.{ClientTaken, NodesSeen, NodeFound};
