@@ -82,9 +82,9 @@ quiet-clients clients w r quiet looked =
     let none : client_end w ≡ 0 = rw quiet in
     (looked (omega (arith, none))).inside (λ i l. absurd (omega (arith, l, none)))
 
-no-turn : (value : List ℕ) (w₀ w : Walk) (t₀ t : Lent) → goes_on w₀ ≡ false → Turns goes_on (Makes value) after_of w₀ t₀ w t → (w ≡ w₀) × (t ≡ t₀)
-no-turn value w₀ w t₀ t stays none = (refl, refl)
-no-turn value w₀ w t₀ t stays (more {w = x} {t = y} T goes made) = clash goes (ap goes_on (no-turn value w₀ x t₀ y stays T).0 ∙ stays)
+no-turn : (value : List ℕ) (w₀ : Walk) (t₀ : Lent) (w : Walk) (t : Lent) → goes_on w₀ ≡ false → Turns goes_on (Makes value) after_of w₀ t₀ w t → (w ≡ w₀) × (t ≡ t₀)
+no-turn value w₀ t₀ w t stays none = (refl, refl)
+no-turn value w₀ t₀ w t stays (more {w = x} {t = y} T goes made) = clash goes (ap goes_on (no-turn value w₀ t₀ x y stays T).0 ∙ stays)
 
 and-false : (b : Bool) → (b && false) ≡ false
 and-false true = refl
@@ -127,7 +127,7 @@ module _ (q : Request) (value : List ℕ) (t₀ : Lent) where
   refused-clients : (why : Refusal) → asks q value t₀ ≡ refused why (vol v t₀) → (w₂ w : Walk) (t : Lent) → w₂ ≡ walk_to v q.call 0 0 (Refused why)
       → Turns goes_on (Makes value) after_of w₂ t₀ w t → Said q value t₀ w.answer t
   refused-clients why e w₂ w t two turns =
-      let none = no-turn value w₂ w t₀ t (ap goes_on two) turns in
+      let none = no-turn value w₂ t₀ w t (ap goes_on two) turns in
       subst (λ (a : Answer). Said q value t₀ a t) (sym (ap (λ x. x.answer) (none.0 ∙ two))) (refused_all q value t₀ t why e none.1)
 
   refused-nodes : (why : Refusal) → asks q value t₀ ≡ refused why (vol v t₀) → (w₁ w₂ w : Walk) (t : Lent) → w₁ ≡ walk_to v q.call 0 0 (Refused why)

@@ -15,7 +15,6 @@ use Rattle.records.specs.Sizes.{sizes_within}
 use Rattle.volume.specs.Volume as Machine
 use Rattle.volume.specs.Volume.{given_fits, is_of_each, on, on_each, on_one, stripe_limit, volume_step}
 use Rattle.routing.specs.declared.Request.{Request}
-use Rattle.tables.specs.declared.Volume.{Volume}
 use Rattle.routing.specs.declared.VolumeCall.{VolumeCall}
 use Rattle.routing.specs.declared.VolumeCall.TheVariants.{Pick, Step}
 use Rattle.tables.specs.Parts.{volume_within}

@@ -1,7 +1,7 @@
 -- What a read of a volume says, from the read of a stripe's parts. Assumes nothing.
 use mathlib.Core.Bool.{Bool, true, false, cond, ◌&&◌, not, and-true}
 use mathlib.Core.List.{List}
-use mathlib.Core.Path.{◌≡◌, refl, sym, ap, ◌∙◌, subst}
+use mathlib.Core.Path.{◌≡◌, refl, sym, ap, ◌∙◌, subst, transport}
 use Prim.Native.Nat.{ℕ, ◌*◌, ◌<◌}
 use native.Mathlib.Nat.{mul-le-mul}
 use native.Mathlib.Omega.{arith}
@@ -12,12 +12,9 @@ use Rattle.basics.proofs.Tests.{and_left, and_right}
 use Rattle.calls.specs.declared.Answer.{Answer}
 use Rattle.calls.specs.declared.Answer.TheVariants.{Accepted, Refused}
 use Rattle.calls.specs.Answers.{answer_of, read_as, shown_part}
-use Rattle.calls.specs.contracts.Answer as answer
-use Rattle.lent.proofs.ShowEntry as show-entry
 use Rattle.machine.specs.Calls.{Read, step}
 use Rattle.machine.specs.Stripe.{Outcome, Stripe, answered, guard}
-use Rattle.parts.specs.Inside.{Range, part_in}
-use Rattle.parts.proofs.Part.{Within}
+use Rattle.parts.specs.Inside.{Range, cut, part_in}
 use Rattle.records.specs.declared.ClientRecord.{ClientRecord}
 use Rattle.records.specs.declared.NodeRecord.{NodeRecord}
 use Rattle.records.specs.declared.Refusal.{Refusal}
@@ -25,30 +22,21 @@ use Rattle.records.specs.declared.Refusal.TheVariants.{OutOfLimits, OutOfRange}
 use Rattle.records.specs.declared.Sizes.{Sizes}
 use Rattle.records.specs.Sizes.{sizes_within}
 use Rattle.records.specs.View.{client_of, node_of}
-use Rattle.records.specs.contracts.ClientRecord as client
-use Rattle.records.specs.contracts.NodeRecord as node
-use Rattle.shelf.proofs.Types.{answer-rec}
-use Rattle.step.proofs.Types.{reading-shows}
 use Rattle.taking.specs.declared.SizedRead as taking
 use Rattle.taking.specs.Lent.{on_tables, stripe_in}
 use Rattle.taking.specs.Reads.{AnswersLent}
 use Rattle.volume.specs.Volume as Machine
 use Rattle.volume.specs.Volume.{on, on_one, put_stripe, stripe_at, volume_step}
 use Rattle.volume.proofs.Steps.{put-itself}
-use Rattle.routing.specs.declared.ReadRequest.{ReadRequest}
 use Rattle.routing.specs.declared.ReadWalk.{ReadWalk}
 use Rattle.routing.specs.declared.SizedRead.{SizedRead}
 use Rattle.tables.specs.declared.Volume.{Volume}
 use Rattle.tables.specs.Parts.{part_of, table_blocks, volume_within}
-use Rattle.volumeshelf.specs.Volumes.{AnswersVolume, ReadsVolume, of_stripe, reading, volume_in}
-use Rattle.routing.specs.Walks.{read_after_of, read_begun_of, read_fits, read_request_of, read_walk, shown_of, sized_of}
-use Rattle.tables.proofs.Parts.{part-within}
-use Rattle.routing.specs.contracts.ReadRequest as read-request
-use Rattle.routing.specs.contracts.SizedRead as sized-read
+use Rattle.volumeshelf.specs.Volumes.{AnswersVolume, of_stripe, reading, volume_in}
+use Rattle.routing.specs.Walks.{read_after_of, read_begun_of, read_fits, read_request_of, read_walk, shown_of}
 use Rattle.tables.proofs.Within.{Small, blocks-table, small}
 use Rattle.volumeshelf.proofs.Ranges.{part-is}
 use Rattle.volumeshelf.proofs.Turn.{Lent, stripe-at, stripe-count, stripe-length}
-use Rattle.volumeshelf.proofs.Types.{read-request-rec, sized-read-rec}
 
 -- the parts that are looked at
 abbrev pub read_nodes : ReadWalk → ℕ → Range
@@ -56,12 +44,6 @@ read_nodes t len = part_of t.at t.volume.z.n len
 
 abbrev pub read_clients : ReadWalk → ℕ → Range
 read_clients t len = part_of t.at t.volume.z.m len
-
-pub nodes_within : (t : ReadWalk) (n : ℕ) → Within (read_nodes t n) n
-nodes_within t n = part-within t.at t.volume.z.n n
-
-pub clients_within : (t : ReadWalk) (n : ℕ) → Within (read_clients t n) n
-clients_within t n = part-within t.at t.volume.z.m n
 
 -- ---- the volume's own tests
 
@@ -231,21 +213,12 @@ answers nodes clients q t begun x asked r went u after blocks spare differences 
     by true false e l w = rw (after, w) (stripe-read q nodes clients blocks spare differences eb es e (leb-false q.volume.stripes q.stripe l) r
         (went-as (read_walk q.volume q.i q.stripe true Accepted) w))
 
--- the part beside the answer
-abbrev pub Sized : ReadRequest → ℕ → ℕ → SizedRead → Type 0
-Sized q blocks spare t = t ≡ sized_of q blocks spare
-
-abbrev pub Parted : SizedRead → Answer → List ℕ → List ℕ → List ℕ → Type 0
-Parted t a blocks spare part = part ≡ shown_of t a blocks spare
-
-pub entered-read : show-entry.Implied node.the_row client.the_row read-request.the_row sized-read.the_row answer.the_row read-request-rec sized-read-rec
-    answer-rec reading-shows Sized AnswersVolume Parted ReadsVolume
-entered-read nodes clients blocks spare part q vx vr x r e =
-    let told : AnswersVolume nodes clients (sized_of q (length blocks) (length spare)) r.0
-    = subst (λ (k : SizedRead). AnswersVolume nodes clients k r.0) x.1.1 r.1.1 in
-    let shows : part ≡ shown_of (sized_of q (length blocks) (length spare)) r.0 blocks spare
-    = subst (λ (k : SizedRead). Parted k r.0 blocks spare part) x.1.1 e in
-    record {
-      said = λ d. ap (λ u. answered (answer_of r.0 u) (volume_in q.volume nodes clients blocks spare d)) shows ∙ told blocks spare d refl refl;
-      shows = shows;
-    }
+-- the same, of parts that begin and end there
+pub answers-at : (nodes : List NodeRecord) (clients : List ClientRecord) (q : SizedRead) (t : ReadWalk) → t ≡ read_begun_of q (length nodes) (length clients)
+    → (x : taking.SizedRead) → x ≡ read_request_of t → (r : Answer) {a0 e0 a1 e1 : ℕ}
+    → a0 ≡ (read_nodes t (length nodes)).first → e0 ≡ (read_nodes t (length nodes)).end
+    → a1 ≡ (read_clients t (length clients)).first → e1 ≡ (read_clients t (length clients)).end
+    → AnswersLent (cut a0 e0 nodes) (cut a1 e1 clients) x r → (u : Answer) → u ≡ read_after_of t r → AnswersVolume nodes clients q u
+answers-at nodes clients q t begun x asked r from-n to-n from-c to-c went u after =
+    answers nodes clients q t begun x asked r
+    (transport (λ i. AnswersLent (cut (from-n i) (to-n i) nodes) (cut (from-c i) (to-c i) clients) x r) went) u after

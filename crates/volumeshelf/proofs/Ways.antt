@@ -12,7 +12,6 @@ use Rattle.basics.proofs.Tests.{and_left, and_right, bool_cases, clash, or-none}
 use Rattle.calls.specs.declared.Answer.{Answer}
 use Rattle.calls.specs.declared.Answer.TheVariants.{Accepted}
 use Rattle.parts.specs.Turns.{none, more}
-use Rattle.parts.proofs.Route.{Looked, One, Plain}
 use Rattle.records.specs.declared.ClientRecord.{ClientRecord}
 use Rattle.records.specs.declared.NodeRecord.{NodeRecord}
 use Rattle.routing.specs.declared.Request.{Request}
@@ -27,7 +26,15 @@ use Rattle.volumeshelf.proofs.Turn.{Lent}
 
 -- ---- after the records were looked at
 
-pub looked : Looked begun_of is_one_step looks_of CallsVolume Goes NodesLooked ClientsLooked
+abbrev begun-as : List NodeRecord → List ClientRecord → List ℕ → List ℕ → List ℕ → List ℕ → Request → Walk
+begun-as nodes clients blocks spare differences value q =
+    begun_of q (length nodes) (length clients) (length blocks) (length spare) (length differences) (length value)
+
+pub looked : (nodes : List NodeRecord) (clients : List ClientRecord) (blocks spare differences value : List ℕ) (q : Request) (w₁ w₂ : Walk) (r : Answer)
+    (nodes' : List NodeRecord) (clients' : List ClientRecord) (blocks' spare' differences' : List ℕ)
+    → NodesLooked nodes (begun-as nodes clients blocks spare differences value q) w₁ → ClientsLooked clients w₁ w₂
+    → Goes nodes clients blocks spare differences value w₂ r nodes' clients' blocks' spare' differences'
+    → CallsVolume nodes clients blocks spare differences value q r nodes' clients' blocks' spare' differences'
 looked nodes clients blocks spare differences value q w₁ w₂ r nodes' clients' blocks' spare' differences' n c gone =
     subst (λ (a : Answer). CallsVolume nodes clients blocks spare differences value q a nodes' clients' blocks' spare' differences') (sym gone.answers)
     (called nodes clients blocks spare differences value q w₁ w₂ gone.last
@@ -45,7 +52,12 @@ quiet-clients clients w quiet _ =
     let end : client_end w ≡ 0 = rw quiet in
     record { inside = λ _. refl; outside = λ i l. absurd (omega (arith, l, end)) }
 
-pub plain : Plain begun_of is_one_step looks_of CallsVolume Goes
+pub plain : (nodes : List NodeRecord) (clients : List ClientRecord) (blocks spare differences value : List ℕ) (q : Request) (r : Answer)
+    (nodes' : List NodeRecord) (clients' : List ClientRecord) (blocks' spare' differences' : List ℕ)
+    → looks_of (begun-as nodes clients blocks spare differences value q) ≡ false
+    → Goes nodes clients blocks spare differences value (begun-as nodes clients blocks spare differences value q) r
+    nodes' clients' blocks' spare' differences'
+    → CallsVolume nodes clients blocks spare differences value q r nodes' clients' blocks' spare' differences'
 plain nodes clients blocks spare differences value q r nodes' clients' blocks' spare' differences' quiet =
     let w = begun_of q (length nodes) (length clients) (length blocks) (length spare) (length differences) (length value) in
     looked nodes clients blocks spare differences value q w w r nodes' clients' blocks' spare' differences' (quiet-nodes nodes w quiet) (quiet-clients clients w quiet)
@@ -86,7 +98,12 @@ begins-at q value t₀ is = by (bool_cases (fits q value t₀)) (bool_cases (is_
     by (inl e) (inr f) (inl g) = clash (goes (begun q value t₀) is) (ap goes_on (begun-outside q value t₀ e f g))
     by (inl e) (inr f) (inr g) = begun-one q value t₀ e f g
 
-pub one : One begun_of is_one_step looks_of CallsVolume StepsPart
+pub one : (nodes : List NodeRecord) (clients : List ClientRecord) (blocks spare differences value : List ℕ) (q : Request) (r : Answer)
+    (nodes' : List NodeRecord) (clients' : List ClientRecord) (blocks' spare' differences' : List ℕ)
+    → is_one_step (begun-as nodes clients blocks spare differences value q) ≡ true
+    → StepsPart nodes clients blocks spare differences value (begun-as nodes clients blocks spare differences value q) r
+    nodes' clients' blocks' spare' differences'
+    → CallsVolume nodes clients blocks spare differences value q r nodes' clients' blocks' spare' differences'
 one nodes clients blocks spare differences value q r nodes' clients' blocks' spare' differences' is made =
     plain nodes clients blocks spare differences value q r nodes' clients' blocks' spare' differences' quiet (record {
       last = after_of w r;
@@ -108,3 +125,27 @@ one nodes clients blocks spare differences value q r nodes' clients' blocks' spa
 
     ends : after_of w r ≡ walk_to q.volume q.call (suc q.stripe) (suc q.stripe) r
     ends = ap (λ (x : Walk). after_of x r) start ∙ after_one q.volume q.call q.stripe r
+
+-- ---- each of them, by the walk that the call begins as
+
+module _ (nodes : List NodeRecord) (clients : List ClientRecord) (blocks spare differences value : List ℕ) (q : Request) (w : Walk)
+    (begun-is : w ≡ begun-as nodes clients blocks spare differences value q) (r : Answer)
+    (nodes' : List NodeRecord) (clients' : List ClientRecord) (blocks' spare' differences' : List ℕ) where
+  abbrev Said : Type 0
+  Said = CallsVolume nodes clients blocks spare differences value q r nodes' clients' blocks' spare' differences'
+
+  pub one-said : true ≡ is_one_step w → StepsPart nodes clients blocks spare differences value w r nodes' clients' blocks' spare' differences' → Said
+  one-said is made =
+      one nodes clients blocks spare differences value q r nodes' clients' blocks' spare' differences' (sym (is ∙ ap is_one_step begun-is))
+      (subst (λ (k : Walk). StepsPart nodes clients blocks spare differences value k r nodes' clients' blocks' spare' differences') begun-is made)
+
+  pub looked-said : (w₁ w₂ : Walk) → NodesLooked nodes w w₁ → ClientsLooked clients w₁ w₂
+      → Goes nodes clients blocks spare differences value w₂ r nodes' clients' blocks' spare' differences' → Said
+  looked-said w₁ w₂ n c gone =
+      looked nodes clients blocks spare differences value q w₁ w₂ r nodes' clients' blocks' spare' differences'
+      (subst (λ (k : Walk). NodesLooked nodes k w₁) begun-is n) c gone
+
+  pub plain-said : false ≡ looks_of w → Goes nodes clients blocks spare differences value w r nodes' clients' blocks' spare' differences' → Said
+  plain-said quiet gone =
+      plain nodes clients blocks spare differences value q r nodes' clients' blocks' spare' differences' (sym (quiet ∙ ap looks_of begun-is))
+      (subst (λ (k : Walk). Goes nodes clients blocks spare differences value k r nodes' clients' blocks' spare' differences') begun-is gone)

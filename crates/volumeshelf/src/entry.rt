@@ -1,4 +1,4 @@
-// The entry points, and the calls on the part of one stripe. Each is walked by a law.
+// The entry points, and the calls on the part of one stripe.
 ghost use Rattle.volumeshelf.specs.Entry.{Goes, PicksPart, StepsPart};
 ghost use Rattle.volumeshelf.specs.Volumes.{AnswersVolume, CallsVolume, FreshVolume, ReadsVolume};
 

@@ -1,4 +1,4 @@
-// A table is looked at, and made fresh. Each of these is walked by a law.
+// A table is looked at, and made fresh. The loops are of two forms (crate lent).
 ghost use Rattle.volumeshelf.specs.Entry.{ClientsLooked, ClientsRenewed, NodesLooked, NodesRenewed};
 
 use records::{ClientRecord, NodeRecord};

@@ -1,0 +1,21 @@
+-- What shelf's call says of the parts, said of the tables.
+use Rattle.routing.specs.Walks.{pick_request_of}
+use Rattle.shelf.specs.Shelf.{PicksOnly}
+use Rattle.volumeshelf.proofs.OnParts.{on-parts}
+use Rattle.volumeshelf.proofs.entry.pick_part.Goals as goal
+
+pub returns : goal.returns
+returns c =
+    on-parts PicksOnly pick_request_of c.args.walk c.args.nodes.now c.args.clients.now c.args.blocks.now c.args.spare.now c.args.differences.now c.args.value.now
+    c.pick-request.result c.pick-request.ensures c.pick.result c.pick.new.nodes c.pick.new.clients c.pick.new.blocks c.pick.new.spare
+    c.pick.new.differences
+    c.nodes_from-a0.result c.nodes_to-e0.result c.clients_from-a1.result c.clients_to-e1.result c.blocks_from-a2.result c.blocks_to-e2.result
+    c.blocks_from-a3.result c.blocks_to-e3.result c.differences_from-a4.result c.differences_to-e4.result c.value_from-a5.result c.value_to-e5.result
+    (record { first = c.nodes_from-a0.ensures; end = c.nodes_to-e0.ensures })
+    (record { first = c.clients_from-a1.ensures; end = c.clients_to-e1.ensures })
+    (record { first = c.blocks_from-a2.ensures; end = c.blocks_to-e2.ensures })
+    (record { first = c.blocks_from-a3.ensures; end = c.blocks_to-e3.ensures })
+    (record { first = c.differences_from-a4.ensures; end = c.differences_to-e4.ensures })
+    (record { first = c.value_from-a5.ensures; end = c.value_to-e5.ensures })
+    c.pick.auto.nodes c.pick.auto.clients c.pick.auto.blocks c.pick.auto.spare c.pick.auto.differences
+    c.pick.ensures
