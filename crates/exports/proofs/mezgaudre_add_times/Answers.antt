@@ -1,6 +1,5 @@
 -- `exports::mezgaudre_add_times` meets its contract. Assumes nothing.
 use borrow.Author.Tests.{eq-eqb, ne_eqb}
-use borrow.Author.Rules.{rules}
 use Rattle.exports.proofs.mezgaudre_add_times.Goals as goal
 
 pub returns-then-dst-src : goal.returns-then-dst-src

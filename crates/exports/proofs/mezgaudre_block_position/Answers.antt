@@ -1,6 +1,5 @@
 -- `exports::mezgaudre_block_position` meets its contract. Assumes nothing.
 use mathlib.Core.Path.{ap}
-use borrow.Author.Rules.{rules}
 use Rattle.exports.proofs.mezgaudre_block_position.Goals as goal
 
 pub returns : goal.returns

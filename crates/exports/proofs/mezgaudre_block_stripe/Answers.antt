@@ -1,6 +1,5 @@
 -- `exports::mezgaudre_block_stripe` meets its contract. Assumes nothing.
 use mathlib.Core.Path.{ap}
-use borrow.Author.Rules.{rules}
 use Rattle.exports.proofs.mezgaudre_block_stripe.Goals as goal
 
 pub returns : goal.returns

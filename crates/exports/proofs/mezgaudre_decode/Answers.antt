@@ -1,5 +1,4 @@
 -- `exports::mezgaudre_decode` meets its contract. Assumes nothing.
-use borrow.Author.Rules.{rules}
 use Rattle.exports.proofs.mezgaudre_decode.Goals as goal
 
 pub returns : goal.returns

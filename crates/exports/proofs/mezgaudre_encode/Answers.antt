@@ -1,5 +1,4 @@
 -- `exports::mezgaudre_encode` meets its contract. Assumes nothing.
-use borrow.Author.Rules.{rules}
 use Rattle.exports.proofs.mezgaudre_encode.Goals as goal
 
 pub returns : goal.returns
