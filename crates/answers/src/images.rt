@@ -4,6 +4,7 @@ ghost use Rattle.image.specs.Places.{image_most};
 
 use calls::Answer;
 use records::Sizes;
+use std::io::{Result, Write};
 use step::Stripe;
 use streams::output::{put, put_bytes, put_number_and, put_text};
 
@@ -14,7 +15,8 @@ fn image_length(z: Sizes) -> usize
 }
 
 // The answer, and the bytes, which go to a buffer of their number.
-fn put_written(
+fn put_written<W: Write>(
+    to: &mut W,
     out: &mut [u8],
     at: usize,
     z: Sizes,
@@ -23,18 +25,19 @@ fn put_written(
     spare: &[u8],
     differences: &[u8],
     image: &mut [u8],
-) -> usize {
+) -> Result<usize> {
     let answer = imaging::write(z, stripe, blocks, differences, spare, image);
-    let next = put_number_and(out, at, answer.number() as u64, b' ');
+    let next = put_number_and(to, out, at, answer.number() as u64, b' ')?;
     let Answer::Accepted = answer else {
-        return put(out, next, b'-');
+        return put(to, out, next, b'-');
     };
-    let after = put_text(out, next, b"image=");
-    put_bytes(out, after, image)
+    let after = put_text(to, out, next, b"image=")?;
+    put_bytes(to, out, after, image)
 }
 
 // `0 image=HEX`, or the number of a refusal and `-`.
-pub fn put_image(
+pub fn put_image<W: Write>(
+    to: &mut W,
     out: &mut [u8],
     at: usize,
     z: Sizes,
@@ -42,10 +45,11 @@ pub fn put_image(
     blocks: &[u8],
     spare: &[u8],
     differences: &[u8],
-) -> usize {
+) -> Result<usize> {
     let mut buffer = [0u8; image::MOST];
     let length = image_length(z);
     put_written(
+        to,
         out,
         at,
         z,

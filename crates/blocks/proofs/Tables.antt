@@ -1,13 +1,13 @@
 -- A table of blocks by its bytes (`table`, `byte_at`). Assumes nothing.
 use mathlib.Core.Path.{◌≡◌, refl, sym, ap, ap₂, ◌∙◌}
 use mathlib.Core.Logic.{◌⊎◌, inl, inr}
-use mathlib.Core.List.{List, [], ◌∷◌, ◌++◌, append-nil, append_assoc}
+use mathlib.Core.List.{List, ◌++◌, append-nil, append_assoc}
 use Prim.Native.Nat.{ℕ, zero, suc, ◌+◌, ◌-◌, ◌*◌, ◌/◌, ◌%◌, ◌≤◌, ◌<◌}
 use native.Mathlib.Nat.{add-zero, add-suc, zero-mul, mul-zero, suc-mul, le_of_suc-le-suc, eq-or-lt_of_le, eq-zero-or-pos, div-lt_iff_lt-mul, div-add-mod', mod-lt}
 use native.Mathlib.Omega.{arith}
 use lib.Arith.{digits_lt}
 use lib.ListN.{length, get_or, drop, length-append, get_or-append}
-use lib.Seq.{get_or_at, get_or-append-add, get_or-take, get_or-drop, ext_get_or}
+use lib.Seq.{get_or-append-add, get_or-take, get_or-drop, ext_get_or}
 use Rattle.basics.proofs.Lists.{length-list_of, get_or-list_of, list_of-cong}
 use Rattle.blocks.specs.Blocks.{part, block, byte_at, table}
 use Rattle.basics.specs.Lists.{list_of}

@@ -1,6 +1,6 @@
 -- Document 01, "Records": "each block is a part of the block table that starts at its own offset". Blocks are numbered from 1.
 -- Assumes nothing.
-use Rattle.std.specs.Prelude.{Bool, cond, ◌&&◌, List, [], ◌∷◌, ◌++◌, ◌≡◌, ℕ, zero, suc, ◌+◌, ◌-◌, ◌*◌, ◌≤◌, ◌<◌, leb, length, get_or, take, drop}
+use Rattle.std.specs.Prelude.{Bool, cond, ◌&&◌, List, [], ◌∷◌, ◌++◌, ℕ, zero, suc, ◌+◌, ◌-◌, ◌*◌, ◌<◌, leb, length, get_or, take, drop}
 use Rattle.std.specs.Int.Bits.{bit_xor}
 use Rattle.basics.specs.Lists.{list_of}
 use Rattle.gf256.specs.Field.{product}

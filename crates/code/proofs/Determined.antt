@@ -7,14 +7,14 @@ use native.Mathlib.Omega.{arith}
 use lib.ListN.{length, get_or}
 use Rattle.blocks.specs.Blocks.{block, byte_at, table, Bytes}
 use Rattle.blocks.proofs.Parts.{block-fits, part_length}
-use Rattle.blocks.proofs.Tables.{byte_at-table, length-table, table-cong, table-ext, get_or-block}
+use Rattle.blocks.proofs.Tables.{byte_at-table, length-table, table-cong, get_or-block}
 use Rattle.blocks.proofs.Tabled.{list_of-is}
 use Rattle.code.specs.Code.{symbol, codeword, Codeword}
-use Rattle.code.specs.Decode.{NodeSet, size, lowest, recovered, recovered_table}
+use Rattle.code.specs.Decode.{NodeSet, lowest, recovered, recovered_table}
 use Rattle.code.specs.Determined.{InvertibleDecides, Determines, Agrees, RecoversTheCodeword}
 use Rattle.code.proofs.Invertible.{invertible-decides}
 use Rattle.code.proofs.NodeSets.{lowest-from, lowest-has, lowest-chosen}
-use Rattle.code.proofs.Recover.{Chosen, recovered-byte, recovered-present, recovered-codeword, recover-symbol}
+use Rattle.code.proofs.Recover.{Chosen, recovered-present, recovered-codeword, recover-symbol}
 use Rattle.code.proofs.Sizes.{Sizes, sizes-of}
 use Rattle.code.proofs.Symbols.{symbol-ext}
 

@@ -11,7 +11,7 @@ use Rattle.basics.proofs.Tests.{never_both}
 use Rattle.gf256.proofs.Laws.{product-comm, product-zero, one_product, inverse-byte}
 use Rattle.code.specs.Code.{coefficient, row, symbol}
 use Rattle.code.specs.Decode.{recovered, each, invertible}
-use Rattle.code.specs.Determined.{Solves, Invertible, Decides}
+use Rattle.code.specs.Determined.{Invertible, Decides}
 use Rattle.gf256.proofs.Ring.{◌⊕◌, ◌⊗◌}
 use Rattle.gf256.proofs.Sum.{All, sum_one}
 use Rattle.code.proofs.Symbols.{symbol-data, symbol-redundant}

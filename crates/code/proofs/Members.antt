@@ -1,16 +1,16 @@
 -- A set of nodes as the code has it, the bits of one number: what its methods do. Assumes nothing.
 use mathlib.Core.Bool.{Bool, true, false, cond, ◌&&◌, ◌||◌, not, and-true, and-false, and_assoc}
 use mathlib.Core.List.{List, [], ◌∷◌, ◌++◌, append-nil}
-use mathlib.Core.Logic.{◌≢◌, ◌⊎◌, inl, inr}
+use mathlib.Core.Logic.{◌≢◌}
 use mathlib.Core.Path.{◌≡◌, refl, sym, ap, ◌∙◌}
 use Prim.Native.Nat.{ℕ, zero, suc, ◌+◌, ◌-◌, ◌*◌, ◌/◌, ◌%◌, ◌^◌, ◌≤◌, ◌<◌}
 use native.Mathlib.Nat.{add-zero, zero-add, add-suc, suc-add, one-mul, zero-mul, mod-one, mod-lt, div-eq_of_lt, le-div_iff_mul-le}
 use native.Mathlib.Numerals.{add-one}
 use native.Mathlib.Decide.{ℕ_discrete, dec_lt}
 use native.Mathlib.Omega.{arith}
-use lib.Bits.{bit_or, bit_xor, or_zero_r, xor_zero_r}
+use lib.Bits.{bit_or, bit_xor}
 use lib.Count.{ones}
-use lib.Dec.{eqb, leb, ltb}
+use lib.Dec.{eqb}
 use lib.ListN.{length, get_or, set, take, replicate, length-append, get_or-append, get_or-eq_default}
 use lib.Pow.{pow_pos, pow_mono, shl_exact}
 use lib.Seq.{take_all, get_or-set_same, get_or-set_other, take-suc, length-take-le, get_or_at}

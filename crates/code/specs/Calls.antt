@@ -1,6 +1,6 @@
 -- Document 01, "Field and code": encoding and decoding on the caller's own buffers. The tests stand in the order of their numbers.
 -- Assumes nothing.
-use Rattle.std.specs.Prelude.{Bool, true, false, cond, ◌&&◌, ◌||◌, not, List, [], ◌∷◌, ℕ, ◌-◌, ◌*◌, eqb, leb, ltb, length}
+use Rattle.std.specs.Prelude.{Bool, false, cond, ◌&&◌, ◌||◌, not, List, [], ◌∷◌, ℕ, ◌-◌, ◌*◌, eqb, leb, ltb, length}
 use Rattle.code.specs.Code.{code_sizes, redundant}
 use Rattle.code.specs.Decode.{NodeSet, set_of, size, lowest, recovered_table, invertible}
 use Rattle.code.specs.declared.CodeAnswer.{CodeAnswer}

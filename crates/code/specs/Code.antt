@@ -1,6 +1,6 @@
 -- Document 01, "Field and code": the coefficients, and what a node holds of one byte of each data block.
 -- Nodes are 1 to n; 1 to k hold data, k + 1 to n are redundant. Assumes nothing.
-use Rattle.std.specs.Prelude.{Bool, true, false, cond, ◌&&◌, List, ◌≡◌, ℕ, ◌+◌, ◌-◌, eqb, leb, ltb}
+use Rattle.std.specs.Prelude.{Bool, cond, ◌&&◌, List, ◌≡◌, ℕ, ◌+◌, ◌-◌, eqb, leb, ltb}
 use Rattle.std.specs.Int.Bits.{bit_xor}
 use Rattle.gf256.specs.Field.{product, inverse}
 unfoldable pub use Rattle.gf256.specs.Field.{sum}

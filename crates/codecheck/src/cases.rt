@@ -6,6 +6,7 @@ ghost use Rattle.codecheck.specs.Cases.{Within, Room, Tables};
 use super::line::Line;
 use super::{Sizes, checksum, decodings};
 use code::{Limits, NodeSet};
+use std::io::{Result, Write};
 
 // The lengths of a case's buffers.
 #[derive(Clone, Copy)]
@@ -45,7 +46,7 @@ fn join(word: &mut [u8], data: &[u8], redundant: &[u8])
 }
 
 // The case's first line.
-fn print_codeword(s: Sizes, redundant: &[u8])
+fn print_codeword<W: Write>(to: &mut W, s: Sizes, redundant: &[u8]) -> Result<()>
     requires { Within s }
 {
     let line = Line::new()
@@ -57,22 +58,29 @@ fn print_codeword(s: Sizes, redundant: &[u8])
         .space()
         .checksum(checksum::after_all(0, redundant));
     if s.b <= 2 {
-        line.space().bytes(redundant).write();
+        line.space().bytes(redundant).write(to)
     } else {
-        line.write();
+        line.write(to)
     }
 }
 
 // A case in the buffers lent.
-fn print_lent(s: Sizes, word: &mut [u8], table: &mut [u8], data: &mut [u8], redundant: &mut [u8])
+fn print_lent<W: Write>(
+    to: &mut W,
+    s: Sizes,
+    word: &mut [u8],
+    table: &mut [u8],
+    data: &mut [u8],
+    redundant: &mut [u8],
+) -> Result<()>
     requires tables { Tables s word.old table.old }
     requires data_len_bound { (length «data».old ≤ data_limit * block_limit) × (length word.old ≡ length «data».old + length redundant.old) }
 {
     fill_data(s, data);
     coding::encode(s.k, s.n, s.b, data, redundant);
     join(word, data, redundant);
-    print_codeword(s, redundant);
-    decodings::print(s, word, table, data, redundant);
+    print_codeword(to, s, redundant)?;
+    decodings::print(to, s, word, table, data, redundant)
 }
 
 fn lengths_of(s: Sizes) -> Lengths
@@ -88,7 +96,7 @@ fn lengths_of(s: Sizes) -> Lengths
     }
 }
 
-fn print_case(s: Sizes)
+fn print_case<W: Write>(to: &mut W, s: Sizes) -> Result<()>
     requires { Within s }
 {
     let mut word = [0u8; NodeSet::NODES * Limits::BLOCK_MOST];
@@ -100,30 +108,34 @@ fn print_case(s: Sizes)
     let d = lengths.data;
     let r = lengths.redundant;
     print_lent(
+        to,
         s,
         &mut word[0..t],
         &mut table[0..t],
         &mut data[0..d],
         &mut redundant[0..r],
-    );
+    )
 }
 
-fn print_lengths(k: usize, n: usize)
+fn print_lengths<W: Write>(to: &mut W, k: usize, n: usize) -> Result<()>
     requires { (k ≤ data_limit) × (k ≤ n) × (n - k ≤ redundant_limit) }
 {
-    print_case(Sizes { k, n, b: 1 });
-    print_case(Sizes { k, n, b: 2 });
-    print_case(Sizes { k, n, b: 511 });
-    print_case(Sizes {
-        k,
-        n,
-        b: Limits::BLOCK_MOST,
-    });
+    print_case(to, Sizes { k, n, b: 1 })?;
+    print_case(to, Sizes { k, n, b: 2 })?;
+    print_case(to, Sizes { k, n, b: 511 })?;
+    print_case(
+        to,
+        Sizes {
+            k,
+            n,
+            b: Limits::BLOCK_MOST,
+        },
+    )
 }
 
-pub fn print() {
-    print_lengths(2, 4);
-    print_lengths(3, 5);
-    print_lengths(4, 7);
-    print_lengths(12, 18);
+pub fn print<W: Write>(to: &mut W) -> Result<()> {
+    print_lengths(to, 2, 4)?;
+    print_lengths(to, 3, 5)?;
+    print_lengths(to, 4, 7)?;
+    print_lengths(to, 12, 18)
 }

@@ -5,6 +5,7 @@ ghost use Rattle.codecheck.specs.Cases.{Within, Tables};
 use super::line::Line;
 use super::{Sizes, checksum, sets};
 use code::{Limits, NodeSet};
+use std::io::{Result, Write};
 
 // Puts the lost block in the place of each block outside the set.
 fn lose(s: Sizes, set: u32, lost: &[u8], table: &mut [u8])
@@ -48,7 +49,7 @@ fn neighbours(second: u8, sixth: u8) -> bool {
 
 // Prints the line that ends with the set's table, if one does, and answers what the checksum goes on from. With 18 nodes
 // the sets with the same two lowest missing nodes share a line: the last of them misses the four nodes after the second.
-fn print_line(s: Sizes, set: u32, h: u32) -> u32
+fn print_line<W: Write>(to: &mut W, s: Sizes, set: u32, h: u32) -> Result<u32>
     requires { Within s }
 {
     if s.n < NodeSet::NODES {
@@ -58,8 +59,8 @@ fn print_line(s: Sizes, set: u32, h: u32) -> u32
             .bytes(&members[0..k])
             .space()
             .checksum(h)
-            .write();
-        return 0;
+            .write(to)?;
+        return Ok(0);
     }
     let missing = sets::members(!set, NodeSet::NODES);
     if neighbours(missing[1], missing[5]) {
@@ -67,14 +68,21 @@ fn print_line(s: Sizes, set: u32, h: u32) -> u32
             .bytes(&missing[0..2])
             .space()
             .checksum(h)
-            .write();
-        return 0;
+            .write(to)?;
+        return Ok(0);
     }
-    h
+    Ok(h)
 }
 
 // The sets in lexicographic order, and a line where one ends.
-pub fn print(s: Sizes, word: &[u8], table: &mut [u8], data: &mut [u8], redundant: &mut [u8])
+pub fn print<W: Write>(
+    to: &mut W,
+    s: Sizes,
+    word: &[u8],
+    table: &mut [u8],
+    data: &mut [u8],
+    redundant: &mut [u8],
+) -> Result<()>
     requires { Tables s word.now table.old }
 {
     let k = s.k as u32;
@@ -84,7 +92,8 @@ pub fn print(s: Sizes, word: &[u8], table: &mut [u8], data: &mut [u8], redundant
         set -= 1;
         if u32::count_ones(set) == k {
             h = decoded(h, s, set, word, table, data, redundant);
-            h = print_line(s, set, h);
+            h = print_line(to, s, set, h)?;
         }
     }
+    Ok(())
 }

@@ -1,5 +1,6 @@
 // The lines on the field.
 use super::line::Line;
+use std::io::{Result, Write};
 
 // a times 0 to 255.
 fn products(a: u8) -> [u8; 256] {
@@ -19,19 +20,20 @@ fn inverses() -> [u8; 255] {
     row
 }
 
-fn print_products() {
+fn print_products<W: Write>(to: &mut W) -> Result<()> {
     for a in 0..256u32 {
         let row = products(a as u8);
-        Line::new().bytes(&row).write();
+        Line::new().bytes(&row).write(to)?;
     }
+    Ok(())
 }
 
-pub fn print() {
+pub fn print<W: Write>(to: &mut W) -> Result<()> {
     let powers = gf256::powers::table();
-    Line::new().bytes(&powers).write();
+    Line::new().bytes(&powers).write(to)?;
     let logarithms = gf256::logarithms::table();
-    Line::new().bytes(&logarithms).write();
-    print_products();
+    Line::new().bytes(&logarithms).write(to)?;
+    print_products(to)?;
     let inverses = inverses();
-    Line::new().bytes(&inverses).write();
+    Line::new().bytes(&inverses).write(to)
 }

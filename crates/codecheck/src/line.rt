@@ -1,7 +1,7 @@
 // A line of text: made by value, and written by one call.
 ghost use Rattle.std.specs.Prelude.{◌<◌};
 
-use libc::STDOUT_FILENO;
+use std::io::{Result, Write};
 
 // The characters so far, at the first `length` places. The longest line is 256 bytes of two digits, and LF.
 #[derive(Clone, Copy)]
@@ -65,15 +65,16 @@ impl Line {
     }
 
     // Writes the line, ended by LF.
-    pub fn write(self) {
+    pub fn write<W: Write>(self, to: &mut W) -> Result<()> {
         let ended = self.character(b'\n');
         let characters = ended.characters;
-        write_first(&characters, ended.length);
+        write_first(to, &characters, ended.length)
     }
 }
 
-fn write_first(characters: &[u8], length: usize) {
+fn write_first<W: Write>(to: &mut W, characters: &[u8], length: usize) -> Result<()> {
     if length <= characters.len() {
-        io::write_all(STDOUT_FILENO, &characters[0..length]);
+        to.write_all(&characters[0..length])?;
     }
+    Ok(())
 }

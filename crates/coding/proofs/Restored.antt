@@ -6,21 +6,20 @@ use Prim.Native.Nat.{ℕ, suc, ◌+◌, ◌-◌, ◌*◌, ◌≤◌, ◌<◌}
 use native.Mathlib.Decide.{ℕ_discrete, dec_lt}
 use native.Mathlib.Nat.{add-sub_cancel_left}
 use native.Mathlib.Omega.{arith}
-use lib.ListN.{length, get_or, take, set, replicate, length-replicate, get_or-replicate}
+use lib.ListN.{length, get_or, take, set, replicate, length-replicate}
 use lib.Seq.{get_or-take, get_or-set_same, get_or-set_other}
 use borrow.Author.Tests.{eq-eqb, ne_eqb}
 use Rattle.gf256.specs.Field.{product}
 use Rattle.gf256.proofs.Laws.{one_product, zero-product}
 use Rattle.blocks.specs.Blocks.{block, set_part, byte_at, table, Bytes}
-use Rattle.basics.specs.Lists.{list_of}
 use Rattle.blocks.proofs.Parts.{part_at, set-length, put_in, put-before}
 use Rattle.blocks.proofs.Tables.{length-table, byte_at-table, table-ext, table-cong}
 use Rattle.code.specs.Code.{sum}
 use Rattle.code.specs.Decode.{recover, recovered}
-use Rattle.kernel.specs.Combine.{nth, mixed, HasBlocks, Rows, Nodes}
+use Rattle.kernel.specs.Combine.{nth, mixed, Rows, Nodes}
 use Rattle.coding.specs.Weights.{Rising, Lost, Held, Recovers, unit_weight, restored_byte}
 use Rattle.blocks.proofs.Entries.{zeros-at}
-use Rattle.gf256.proofs.Sum.{All, sum_one}
+use Rattle.gf256.proofs.Sum.{sum_one}
 use Rattle.code.proofs.Recover.{Chosen, recovered-present}
 use Rattle.kernel.proofs.Mixed.{mixed-is}
 

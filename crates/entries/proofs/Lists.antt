@@ -19,11 +19,8 @@ use Rattle.entries.specs.declared.Entries.{Entries}
 use Rattle.entries.specs.declared.Previous.{Previous}
 use Rattle.entries.specs.declared.Previous.TheVariants.{Nothing, Id}
 use Rattle.entries.specs.declared.write_ids.IdTest.{IdTest}
-use Rattle.entries.specs.declared.write_ids.IdTest.TheVariants as IdTest
 use Rattle.entries.specs.declared.node_entries.EntryTest.{EntryTest}
-use Rattle.entries.specs.declared.node_entries.EntryTest.TheVariants as EntryTest
 use Rattle.entries.specs.declared.node_entries.EntryChange.{EntryChange}
-use Rattle.entries.specs.declared.node_entries.EntryChange.TheVariants as EntryChange
 use Rattle.entries.specs.Entries.{Entry, is_recent, is_in, is_listed, is_recent_in, is_old_in, last_recent, last_recent_after, aged_entry, aged, discard, mark_old, some_due, age_limit, id_within, ids_within, entries_within}
 use Rattle.entries.specs.Lists.{id_passes, some_id_passes, passes, some_passes, is_outside, is_kept, offered, changed}
 use Rattle.entries.specs.View.{blank_id, ids_of, entry_of, blank_entry, entries_of}

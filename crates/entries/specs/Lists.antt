@@ -3,7 +3,6 @@ use Rattle.std.specs.Prelude.{Bool, cond, ◌&&◌, not, List, [], ◌∷◌, �
 use Rattle.entries.specs.declared.WriteId.{WriteId}
 use Rattle.entries.specs.declared.Mark.TheVariants.{Old}
 use Rattle.entries.specs.declared.write_ids.IdTest.{IdTest}
-use Rattle.entries.specs.declared.write_ids.IdTest.TheVariants as IdTest
 use Rattle.entries.specs.declared.node_entries.EntryTest.{EntryTest}
 use Rattle.entries.specs.declared.node_entries.EntryTest.TheVariants.{Of, RecentOf, OldOf, Due}
 use Rattle.entries.specs.declared.node_entries.EntryChange.{EntryChange}

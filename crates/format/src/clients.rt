@@ -1,59 +1,87 @@
 // A client's record as a text.
 use super::lists::{put_id, put_ids, put_set};
 use entries::Previous;
-use records::{ClientRecord, Hand, Write};
+use records::{ClientRecord, Hand};
+use std::io::{Result, Write};
 use streams::output::{put, put_number, put_number_and, put_text};
 
-fn put_previous(out: &mut [u8], at: usize, previous: Previous) -> usize {
+fn put_previous<W: Write>(
+    to: &mut W,
+    out: &mut [u8],
+    at: usize,
+    previous: Previous,
+) -> Result<usize> {
     match previous {
-        Previous::Nothing => put_text(out, at, b"none"),
-        Previous::Id(id) => put_id(out, at, id),
+        Previous::Nothing => put_text(to, out, at, b"none"),
+        Previous::Id(id) => put_id(to, out, at, id),
     }
 }
 
 // `position/id/previous or none/epoch/DONE`.
-fn put_write(out: &mut [u8], mut at: usize, write: Write) -> usize {
+fn put_write<W: Write>(
+    to: &mut W,
+    out: &mut [u8],
+    mut at: usize,
+    write: records::Write,
+) -> Result<usize> {
     let id = write.id;
     let previous = write.previous;
     let done = write.done;
-    at = put_number_and(out, at, id.position as u64, b'/');
-    at = put_id(out, at, id);
-    at = put(out, at, b'/');
-    at = put_previous(out, at, previous);
-    at = put(out, at, b'/');
-    at = put_number_and(out, at, write.epoch.0 as u64, b'/');
-    put_set(out, at, done)
+    at = put_number_and(to, out, at, id.position as u64, b'/')?;
+    at = put_id(to, out, at, id)?;
+    at = put(to, out, at, b'/')?;
+    at = put_previous(to, out, at, previous)?;
+    at = put(to, out, at, b'/')?;
+    at = put_number_and(to, out, at, write.epoch.0 as u64, b'/')?;
+    put_set(to, out, at, done)
 }
 
-fn put_hand(out: &mut [u8], at: usize, hand: Hand) -> usize {
+fn put_hand<W: Write>(to: &mut W, out: &mut [u8], at: usize, hand: Hand) -> Result<usize> {
     match hand {
-        Hand::Empty => put(out, at, b'-'),
-        Hand::Holding(write) => put_write(out, at, write),
+        Hand::Empty => put(to, out, at, b'-'),
+        Hand::Holding(write) => put_write(to, out, at, write),
     }
 }
 
 // `c:HAND,`.
-fn put_number_and_hand(out: &mut [u8], mut at: usize, c: usize, client: ClientRecord) -> usize {
+fn put_number_and_hand<W: Write>(
+    to: &mut W,
+    out: &mut [u8],
+    mut at: usize,
+    c: usize,
+    client: ClientRecord,
+) -> Result<usize> {
     let hand = client.hand;
-    at = put_number_and(out, at, c as u64, b':');
-    at = put_hand(out, at, hand);
-    put(out, at, b',')
+    at = put_number_and(to, out, at, c as u64, b':')?;
+    at = put_hand(to, out, at, hand)?;
+    put(to, out, at, b',')
 }
 
 // `FINISHED,MOVED,`.
-fn put_lists(out: &mut [u8], mut at: usize, client: ClientRecord) -> usize {
+fn put_lists<W: Write>(
+    to: &mut W,
+    out: &mut [u8],
+    mut at: usize,
+    client: ClientRecord,
+) -> Result<usize> {
     let finished = client.finished;
     let moved = client.moved;
-    at = put_ids(out, at, finished);
-    at = put(out, at, b',');
-    at = put_ids(out, at, moved);
-    put(out, at, b',')
+    at = put_ids(to, out, at, finished)?;
+    at = put(to, out, at, b',')?;
+    at = put_ids(to, out, at, moved)?;
+    put(to, out, at, b',')
 }
 
 // `c:HAND,FINISHED,MOVED,SWEEP,NEXT`.
-pub fn put_client(out: &mut [u8], mut at: usize, c: usize, client: ClientRecord) -> usize {
-    at = put_number_and_hand(out, at, c, client);
-    at = put_lists(out, at, client);
-    at = put_number_and(out, at, client.round as u64, b',');
-    put_number(out, at, client.next.0 as u64)
+pub fn put_client<W: Write>(
+    to: &mut W,
+    out: &mut [u8],
+    mut at: usize,
+    c: usize,
+    client: ClientRecord,
+) -> Result<usize> {
+    at = put_number_and_hand(to, out, at, c, client)?;
+    at = put_lists(to, out, at, client)?;
+    at = put_number_and(to, out, at, client.round as u64, b',')?;
+    put_number(to, out, at, client.next.0 as u64)
 }

@@ -1,15 +1,13 @@
 -- Sizes as they are kept: one size at a time; and sizes that are kept as others are no stripe's, nor are the others. Assumes nothing.
-use mathlib.Core.Path.{◌≡◌, refl, sym, ap, ◌∙◌}
-use mathlib.Core.Logic.{◌⊎◌, inl, inr}
+use mathlib.Core.Path.{◌≡◌, refl, ◌∙◌}
 use mathlib.Core.Bool.{Bool, true, false, cond, ◌&&◌}
 use mathlib.Core.List.{List, [], ◌∷◌, ◌++◌}
-use Prim.Native.Nat.{ℕ, zero, suc, ◌+◌, ◌≤◌, ◌<◌}
+use Prim.Native.Nat.{ℕ, ◌+◌}
 use native.Mathlib.Omega.{arith}
 use lib.Dec.{eqb, leb}
-use lib.ListN.{length, take}
-use borrow.Author.Tests.{leb-true, leb-false, le-leb, lt-leb, ne_eqb}
+use lib.ListN.{length}
+use borrow.Author.Tests.{leb-true, leb-false, lt-leb, ne_eqb}
 use Rattle.basics.specs.Lists.{every_of}
-use Rattle.basics.proofs.Tests.{bool_cases, and_both, clash}
 use Rattle.groups.specs.Groups.{group_limit, total, groups_fit}
 use Rattle.groups.specs.View.{kept, impossible, KeptFits}
 

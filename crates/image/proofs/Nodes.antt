@@ -25,7 +25,6 @@ use Rattle.records.specs.declared.Opmode.TheVariants.{Norm, Recons, Init}
 use Rattle.records.specs.declared.Lmode.{Lmode}
 use Rattle.records.specs.declared.Lmode.TheVariants.{Unl, L0, L1, Exp}
 use Rattle.records.specs.declared.Holder.{Holder}
-use Rattle.records.specs.declared.Holder.TheVariants as Holder
 use Rattle.records.specs.Node.{Node, holder_within, node_within}
 use Rattle.records.specs.Sizes.{is_client}
 use Rattle.image.specs.Records.{id_bytes, mark_byte, entry_bytes, opmode_byte, lmode_byte, holder_byte, entries_bytes, node_bytes}

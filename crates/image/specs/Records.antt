@@ -16,7 +16,6 @@ use Rattle.records.specs.declared.Opmode.TheVariants.{Norm, Recons, Init}
 use Rattle.records.specs.declared.Lmode.{Lmode}
 use Rattle.records.specs.declared.Lmode.TheVariants.{Unl, L0, L1, Exp}
 use Rattle.records.specs.declared.Holder.{Holder}
-use Rattle.records.specs.declared.Holder.TheVariants as Holder
 use Rattle.records.specs.Node.{Node, is_exp}
 use Rattle.records.specs.Client.{Client, Write, Rebuild, NoRebuild, Locking, Picking, Writing, Settling, Unlocking}
 

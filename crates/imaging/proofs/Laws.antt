@@ -12,7 +12,7 @@ use Rattle.entries.specs.View.{blank_id, ids_of}
 use Rattle.image.specs.declared.Places.{Places}
 use Rattle.image.specs.Image.{image_length, writable}
 use Rattle.image.specs.Places.{places_of}
-use Rattle.image.proofs.Limits.{small, every-place}
+use Rattle.image.proofs.Limits.{every-place}
 use Rattle.image.proofs.Clients.{few-finished}
 use Rattle.image.proofs.Longest.{within-most}
 use Rattle.machine.specs.Stripe.{Stripe}

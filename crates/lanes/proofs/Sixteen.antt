@@ -1,13 +1,12 @@
 -- Sixteen bytes at a time: sixteen bytes that are read, and the sums of four, at all their places. Assumes nothing.
 use mathlib.Core.List.{List, [], ◌∷◌, ◌++◌}
-use mathlib.Core.Logic.{◌⊎◌, inl, inr}
 use mathlib.Core.Path.{◌≡◌, refl, sym, ap, ◌∙◌}
 use Prim.Native.Nat.{ℕ, zero, suc, ◌+◌, ◌-◌, ◌*◌, ◌/◌, ◌%◌, ◌≤◌, ◌<◌}
 use native.Mathlib.Decide.{ℕ_discrete, dec_lt}
-use native.Mathlib.Nat.{add-sub_cancel_left, div-add-mod', mod-lt, zero-mul, one-mul}
+use native.Mathlib.Nat.{add-sub_cancel_left, zero-mul, one-mul}
 use native.Mathlib.Omega.{arith}
 use lib.Bits.{bit_xor}
-use lib.ListN.{length, get_or, take, drop, set, replicate, length-set, length-append, length-drop, length-replicate, get_or-replicate, get_or-append}
+use lib.ListN.{length, get_or, take, drop, set, replicate, length-set, length-append, length-drop, get_or-replicate, get_or-append}
 use lib.Seq.{length-take-le, get_or-take, get_or-append-add, get_or-drop, get_or-set_same, get_or-set_other}
 use borrow.Author.Tests.{lt-ltb, le-ltb}
 use Rattle.gf256.proofs.Xor.{xors}

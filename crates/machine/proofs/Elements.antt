@@ -8,7 +8,6 @@ use lib.ListN.{length, get_or}
 use Rattle.basics.specs.Lists.{element_at}
 use Rattle.basics.proofs.Tests.{and_both}
 use Rattle.records.specs.declared.Lmode.{Lmode}
-use Rattle.records.specs.declared.Lmode.TheVariants as Lmode
 use Rattle.records.specs.Node.{Node, failed_node, given_back}
 use Rattle.records.specs.Node as Node
 use Rattle.records.specs.Client.{unl_or_exp}

@@ -13,7 +13,6 @@ use Rattle.entries.specs.declared.Previous.TheVariants.{Id}
 use Rattle.entries.specs.Entries.{Entry, is_listed, is_recent_in, is_old_in, is_in, last_recent}
 use Rattle.records.specs.declared.Opmode.{Opmode}
 use Rattle.records.specs.declared.Lmode.{Lmode}
-use Rattle.records.specs.declared.Lmode.TheVariants as Lmode
 use Rattle.records.specs.Node.{is_init, is_norm, is_recons}
 use Rattle.records.specs.Node as Node
 use Rattle.records.specs.Client.{Write, Rebuild, NoRebuild, Locking, Picking, Writing, Settling, Unlocking}

@@ -15,7 +15,6 @@ use Rattle.code.specs.Decode.{NodeSet, size, recovered_table}
 use Rattle.entries.specs.declared.Epoch.{Epoch}
 use Rattle.records.specs.declared.Sizes.{Sizes}
 use Rattle.records.specs.declared.Lmode.{Lmode}
-use Rattle.records.specs.declared.Lmode.TheVariants as Lmode
 use Rattle.records.specs.declared.Holder.{Holder}
 use Rattle.records.specs.declared.Holder.TheVariants.{Nobody, Client}
 use Rattle.records.specs.declared.Refusal.{Refusal}

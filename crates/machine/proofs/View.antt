@@ -11,7 +11,6 @@ use lib.Seq.{get_or-set_same, get_or-set_other, set-get_or}
 use Rattle.records.specs.declared.Sizes.{Sizes}
 use Rattle.records.specs.declared.Refusal.{Refusal}
 use Rattle.records.specs.declared.Lmode.{Lmode}
-use Rattle.records.specs.declared.Lmode.TheVariants as Lmode
 use Rattle.records.specs.declared.Holder.{Holder}
 use Rattle.records.specs.declared.Holder.TheVariants.{Nobody, Client}
 use Rattle.records.specs.Node.{Node, failed_node, is_holder, holder_number}

@@ -1,5 +1,5 @@
 -- Document 01, "Records" and "Numbers of the answers": a stripe, what a call is lent of it, and answers. Assumes nothing.
-use Rattle.std.specs.Prelude.{Bool, true, false, cond, ◌&&◌, ◌||◌, List, [], ◌∷◌, ℕ, zero, suc, ◌*◌, eqb, length, get_or, set, replicate}
+use Rattle.std.specs.Prelude.{Bool, cond, ◌&&◌, List, ℕ, ◌*◌, eqb, length, replicate}
 use Rattle.basics.specs.Lists.{element_at, set_at, every_of}
 use Rattle.records.specs.declared.Sizes.{Sizes}
 use Rattle.records.specs.declared.Finding.{Finding}

@@ -1,11 +1,12 @@
 // Answers planning calls: each line of standard input, `n-k G t_p`, gives `LIMIT yes`, `LIMIT no` or `1`.
 #![tactic(auto)]
+
 mod printing; // printing.rt: an answer's line
 mod reader; // reader.rt: a line, read byte by byte
 
-use libc::STDIN_FILENO;
 use printing::print;
 use reader::Reader;
+use std::io::{Read, Result, Write};
 
 const LF: u8 = b'\n';
 
@@ -13,31 +14,33 @@ const LF: u8 = b'\n';
 const TURNS: u64 = u64::MAX;
 
 // Answers the lines that end among the bytes; what is read of the line after them.
-fn feed(mut reader: Reader, input: &[u8]) -> Reader {
+fn feed<W: Write>(to: &mut W, mut reader: Reader, input: &[u8]) -> Result<Reader> {
     for i in 0..input.len() {
         let byte = input[i];
         if byte == LF {
-            print(reader.answer());
+            print(to, reader.answer())?;
             reader = Reader::new();
         } else {
             reader = reader.step(byte);
         }
     }
-    reader
+    Ok(reader)
 }
 
-fn main() {
-    let mut input = io::large_buffer();
+fn main(rt: HostRuntime) -> Result<()> {
+    let mut from = rt.stdin();
+    let mut to = rt.stdout();
+    let mut input = [0u8; 65536];
     let mut reader = Reader::new();
     for _ in 0..TURNS {
-        let got = libc::read(STDIN_FILENO, &mut input);
-        let n = io::count(got, &input);
+        let n = from.read(&mut input)?;
         if n == 0 {
             if reader.is_begun {
-                print(reader.answer());
+                print(&mut to, reader.answer())?;
             }
-            return;
+            return Ok(());
         }
-        reader = feed(reader, &input[..n]);
+        reader = feed(&mut to, reader, &input[..n])?;
     }
+    Ok(())
 }

@@ -1,8 +1,8 @@
 // An answer's line.
 ghost use Rattle.std.specs.Prelude.{◌≡◌, nat_abs};
 
-use libc::STDOUT_FILENO;
 use planning::PlanAnswer;
+use std::io::{Result, Write};
 
 // A number without its sign.
 fn magnitude(limit: i64) -> u64
@@ -15,24 +15,24 @@ fn magnitude(limit: i64) -> u64
     }
 }
 
-fn print_limit(limit: i64) {
+fn print_limit<W: Write>(to: &mut W, limit: i64) -> Result<()> {
     if limit < 0 {
-        io::write_all(STDOUT_FILENO, b"-");
+        to.write_all(b"-")?;
     }
-    io::print_decimal(STDOUT_FILENO, magnitude(limit));
+    let mut digits = [0u8; 20];
+    let count = io::decimal(magnitude(limit), &mut digits);
+    to.write_all(&digits[..count])
 }
 
-pub fn print(answer: PlanAnswer) {
+pub fn print<W: Write>(to: &mut W, answer: PlanAnswer) -> Result<()> {
     match answer {
-        PlanAnswer::OutOfLimits => {
-            io::write_all(STDOUT_FILENO, b"1\n");
-        }
+        PlanAnswer::OutOfLimits => to.write_all(b"1\n"),
         PlanAnswer::Limit(limit, kept) => {
-            print_limit(limit);
+            print_limit(to, limit)?;
             if kept {
-                io::write_all(STDOUT_FILENO, b" yes\n");
+                to.write_all(b" yes\n")
             } else {
-                io::write_all(STDOUT_FILENO, b" no\n");
+                to.write_all(b" no\n")
             }
         }
     }

@@ -13,7 +13,6 @@ use Rattle.records.specs.declared.Write.{Write}
 use Rattle.records.specs.declared.Hand.{Hand}
 use Rattle.records.specs.declared.Hand.TheVariants.{Empty, Holding}
 use Rattle.records.specs.declared.Phase.{Phase}
-use Rattle.records.specs.declared.Phase.TheVariants as Phase
 use Rattle.records.specs.declared.ClientRecord.{ClientRecord}
 use Rattle.records.specs.Client as Client
 use Rattle.records.specs.Node.{Node}

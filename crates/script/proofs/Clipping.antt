@@ -3,24 +3,22 @@ use mathlib.Core.Path.{◌≡◌, refl, sym, ap, ◌∙◌}
 use mathlib.Core.Bool.{Bool, true, false, cond, ◌&&◌, ◌||◌, not}
 use mathlib.Core.List.{List, [], ◌∷◌}
 use mathlib.Core.Option.{Option, none, some}
-use Prim.Native.Nat.{ℕ, zero, suc, ◌≤◌, ◌<◌, min}
+use Prim.Native.Nat.{ℕ, zero, suc, ◌≤◌, ◌<◌}
 use native.Mathlib.Decide.{dec_le}
 use native.Mathlib.Omega.{arith}
 use lib.Dec.{eqb, leb, ltb}
 use lib.ListN.{length}
-use borrow.Author.Tests.{lt-leb, le-leb, ne_eqb}
+use borrow.Author.Tests.{lt-leb, ne_eqb}
 use Rattle.records.specs.declared.Sizes.{Sizes}
 use Rattle.records.specs.declared.Refusal.{Refusal}
 use Rattle.records.specs.declared.Refusal.TheVariants.{OutOfLimits, OutOfRange}
 use Rattle.records.specs.Node.{failed_node, node_within}
 use Rattle.records.specs.Client.{Client, fresh_client, client_within}
 use Rattle.records.specs.Sizes.{sizes_within, is_node, is_position, is_redundant, is_client}
-use Rattle.machine.specs.Stripe.{Stripe, Answer, Outcome, refused, guard, Local, Whole, node_at, client_at, at_node, on_node, whole, on_whole, blocks_fit, nodes_fit}
+use Rattle.machine.specs.Stripe.{Stripe, Answer, Outcome, refused, guard, Local, Whole, node_at, client_at, at_node, on_node, whole, on_whole, blocks_fit}
 use Rattle.basics.specs.Lists.{element_at}
 use Rattle.machine.specs.Calls.{Call, Read, Pick, Swap, Fail, Due, Tick, At, By, step}
-use Rattle.records.specs.declared.NodeCall.{NodeCall}
 use Rattle.records.specs.declared.NodeCall.TheVariants.{Add, Check}
-use Rattle.records.specs.declared.ClientCall.{ClientCall}
 use Rattle.records.specs.declared.ClientCall.TheVariants.{Drop, Sweep, Stop, Lock, Weaken, Tighten, Write, Settle, Unlock, Quit}
 use Rattle.machine.specs.Reading as Reading
 use Rattle.machine.specs.Writing as Writing

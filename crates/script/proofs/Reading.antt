@@ -1,13 +1,13 @@
 -- What a reader tells, over one byte: a space ends a field, any other byte goes on with it. Assumes nothing.
-use mathlib.Core.Path.{◌≡◌, refl, sym, ap, subst, ◌∙◌}
-use mathlib.Core.List.{List, [], ◌∷◌, ◌++◌, append_assoc, append-nil}
+use mathlib.Core.Path.{◌≡◌, ◌∙◌}
+use mathlib.Core.List.{List, [], ◌∷◌, append_assoc, append-nil}
 use Prim.Native.Nat.{ℕ}
 use lib.Dec.{eqb}
 use lib.ListN.{length}
 use borrow.Author.Tests.{ne_eqb}
 use Rattle.basics.proofs.Tests.{cond_ind}
-use Rattle.script.specs.Lines.{onto, parts, fields, call}
-use Rattle.script.specs.Reading.{clipped, goes_on, HasRead, Takes, Follows, Ends, Finishes}
+use Rattle.script.specs.Lines.{onto, parts, fields}
+use Rattle.script.specs.Reading.{goes_on, HasRead, Takes, Follows, Ends, Finishes}
 use Rattle.script.specs.declared.reader.Line.{Line}
 use Rattle.script.specs.declared.reader.LineReader.{LineReader}
 

@@ -1,6 +1,6 @@
 -- Document 01, "Due test and runner": the lines of the programs, as lists of bytes in ASCII: what a line of input means, to striperun and to
 -- shelfrun, and what a line of output says. Assumes nothing.
-use Rattle.std.specs.Prelude.{Bool, true, false, cond, ◌&&◌, ◌||◌, List, [], ◌∷◌, ◌++◌, ℕ, zero, suc, ◌+◌, ◌-◌, ◌*◌, ◌/◌, ◌%◌, eqb, leb, ltb}
+use Rattle.std.specs.Prelude.{Bool, true, false, cond, ◌&&◌, List, [], ◌∷◌, ◌++◌, ℕ, zero, suc, ◌+◌, ◌-◌, ◌*◌, ◌/◌, ◌%◌, eqb, leb, ltb}
 use Rattle.std.proofs.Math.Option.{Option, none, some}
 use Rattle.machine.specs.Stripe as Stripe
 use Rattle.machine.specs.Stripe.{Answer, Accepted, Added, Done, Rebuilt, Told, Refused, number}

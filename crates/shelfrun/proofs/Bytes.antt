@@ -6,7 +6,7 @@ use mathlib.Core.Option.{Option, none, some}
 use Prim.Native.Nat.{ℕ, suc, ◌+◌, ◌≤◌, ◌<◌}
 use native.Mathlib.Numerals.{add-one}
 use native.Mathlib.Omega.{arith}
-use lib.ListN.{length, take, get_or, replicate, length-take}
+use lib.ListN.{length, take, get_or, length-take}
 use lib.Seq.{length-take-le, take-suc, take-append-add, take-append-le}
 use borrow.Author.Tests.{ne_eqb}
 use Rattle.basics.proofs.Lists.{length-list_of}
@@ -22,8 +22,7 @@ use Rattle.script.proofs.Clipping.{Small, clip-call, clip-shelf, clip-event}
 use Rattle.step.specs.declared.Stripe as Player
 use Rattle.step.specs.View.{stripe_of}
 use Rattle.shelfrun.specs.Shelfrun.{State, start, sizes, outcome, output, is_begun, line_output, byte_output, byte_left, output_of, left, last_output, shelfrun}
-use Rattle.shelfrun.specs.Feeding.{Answers, Is, Kept, Keeps, Feeds, Reached}
-use Rattle.shelfrun.specs.declared.feeding.Shelf.{Shelf}
+use Rattle.shelfrun.specs.Feeding.{Answers, Is, Kept, Feeds, Reached}
 use Rattle.shelfrun.proofs.Turns.{one_byte}
 
 ---- bytes after bytes
@@ -167,15 +166,6 @@ fed-all {a = a} {all = all} {text = text} {lines = lines} {begun = begun} {reade
     (subst (λ (l : List ℕ). Feeds a l text (Kept lines begun reader value s)) e f)
 
 ---- from the start
-
-pub reached-start : (y : Shelf) (blocks spare differences : List ℕ) → Keeps y (replicate 4 0) (replicate 4 0) (replicate 2 0) start
-    → (blocks ≡ replicate 4 0) × (spare ≡ replicate 4 0) × (differences ≡ replicate 2 0) → Reached (Keeps y blocks spare differences)
-unfolding output_of left
-reached-start y blocks spare differences k e = record {
-  input = [];
-  text = [];
-  fed = record { prints = λ x s. refl; leaves = λ x s. rw (s, e.0, e.1, e.2) k };
-}
 
 pub reached-more : {a b : State → Type 0} {l t : List ℕ} → Reached a → Feeds a l t b → Reached b
 reached-more {l = l} {t = t} r f = record { input = r.input ++ l; text = r.text ++ t; fed = feeds-then r.fed f }

@@ -1,3 +1,4 @@
 pub mod Turns
 pub mod Bytes
 pub mod Example
+pub mod Played

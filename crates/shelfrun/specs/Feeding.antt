@@ -1,5 +1,6 @@
 -- What the functions of shelfrun say of a State: how it is kept by value, and what lines and bytes print and leave. Assumes nothing.
-use Rattle.std.specs.Prelude.{Bool, ◌≡◌, List, [], ◌∷◌, ℕ}
+use Rattle.std.specs.Prelude.{Bool, ◌≡◌, List, [], ◌∷◌, ℕ, ◌-◌, ◌^◌, ◌<◌, length, Option as Known, IfSome}
+use Rattle.std.specs.Io.KnownBytes.{Appends, Consumes, IsAtEnd}
 use Rattle.std.proofs.Math.Option.{Option, some}
 use Rattle.machine.specs.Stripe as Machine
 use Rattle.machine.specs.Calls.{Call}
@@ -12,7 +13,7 @@ use Rattle.script.specs.declared.writer.Shown.{Shown}
 use Rattle.script.specs.declared.writer.Shown.TheVariants as Showns
 use Rattle.step.specs.View.{stripe_of}
 use Rattle.shelfrun.specs.declared.feeding.Shelf.{Shelf}
-use Rattle.shelfrun.specs.Shelfrun.{State, start, sizes, outcome, output, output_of, left, event_in, read_in, is_begun}
+use Rattle.shelfrun.specs.Shelfrun.{State, start, sizes, outcome, output, output_of, left, event_in, read_in, is_begun, shelfrun}
 
 -- what is shown of a block of one byte, or of none
 abbrev pub byte_in : List ℕ → Shown
@@ -55,3 +56,23 @@ pub record Reached (kept : State → Type 0) : Type 0 where
   pub input : List ℕ
   pub text : List ℕ
   pub fed : Feeds (λ x. x ≡ start) input text kept
+
+---- a reader's bytes and a writer's, as far as they are known
+
+-- the same of the bytes that were read, and what they print was written
+pub record Played (unread unread' written written' : Known (List ℕ)) (kept : State → Type 0) : Type 0 where
+  pub reached : Reached kept
+  pub read : Consumes unread unread' reached.input
+  pub wrote : Appends written written' reached.text
+
+-- no longer than what the program counts: it gives up after that many bytes
+abbrev pub IsCounted : List ℕ → Type 0
+IsCounted input = length input < 2 ^ 64 - 1026
+
+-- all was read
+abbrev pub Ended : Known (List ℕ) → Known (List ℕ) → Type 0
+Ended unread unread' = IfSome unread (λ input. IsCounted input → IsAtEnd unread')
+
+-- what was written is what shelfrun prints of all that was to be read
+abbrev pub Prints : Known (List ℕ) → Known (List ℕ) → Known (List ℕ) → Type 0
+Prints unread written written' = IfSome unread (λ input. IsCounted input → Appends written written' (shelfrun input))

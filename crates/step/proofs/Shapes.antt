@@ -30,7 +30,7 @@ use Rattle.stripe.specs.Seen.{Sees, applied, keep}
 use Rattle.aging.specs.declared.Ticked.{Ticked}
 use Rattle.rebuild.specs.declared.Stepped.{Stepped}
 use Rattle.rebuild.specs.Promises.{Told, nodes_after, Steps}
-use Rattle.step.specs.Steps.{Handed, put_back, stripe_with, StepsAs}
+use Rattle.step.specs.Steps.{put_back, stripe_with, StepsAs}
 
 -- the records of node j and of client c
 on-node : (f : Local → Outcome Local) (j c : ℕ) (s : Stripe) {x : Node} {y : Client} → x ≡ node_at s.nodes j → y ≡ client_at s.clients c

@@ -48,7 +48,7 @@ fn part_of<'a>(answer: Answer, z: Sizes, i: u8, blocks: &'a [u8], spare: &'a [u8
     shown_part(answer, z.b, i as usize, blocks, spare)
 }
 
-// The block of data node i, a part of the blocks or of the spare, and the answer, which tells of which. It is walked by a law.
+// The block of data node i, a part of the blocks or of the spare, and the answer, which tells of which.
 pub fn read<'a>(z: Sizes, i: u8, stripe: Stripe, blocks: &'a [u8], spare: &'a [u8]) -> Reading<'a>
     ensures { Reads z i stripe blocks.now spare.now result.answer result.part.now }
 {

@@ -1,7 +1,7 @@
-// Standard input by way of a lent buffer: its bytes, its first line, and the lines of a script that cannot be played.
+// An input by way of a lent buffer: its bytes, its first line, and the lines of a script that cannot be played.
 use super::output::{flush, put_text};
 use super::sizes::SizesReader;
-use libc::STDIN_FILENO;
+use std::io::{Read, Result, Write};
 
 pub const LF: u8 = b'\n';
 
@@ -39,65 +39,65 @@ impl Input {
         Input { at: 0, end: 0 }
     }
 
-    pub fn next(self, buffer: &mut [u8]) -> Next {
+    pub fn next<R: Read>(self, from: &mut R, buffer: &mut [u8]) -> Result<Next> {
         let at = self.at;
         let end = self.end;
         if end <= at {
-            return fill(buffer);
+            return fill(from, buffer);
         }
         if buffer.len() <= at {
-            return Next::End;
+            return Ok(Next::End);
         }
-        Next::Byte(buffer[at], Input { at: at + 1, end })
+        Ok(Next::Byte(buffer[at], Input { at: at + 1, end }))
     }
 
     // The first line.
-    pub fn first(mut self, buffer: &mut [u8]) -> First {
+    pub fn first<R: Read>(mut self, from: &mut R, buffer: &mut [u8]) -> Result<First> {
         let mut reader = SizesReader::new();
         for _ in 0..TURNS {
-            match self.next(buffer) {
+            match self.next(from, buffer)? {
                 Next::End => {
-                    return First {
+                    return Ok(First {
                         reader,
                         input: self,
-                    };
+                    });
                 }
                 Next::Byte(byte, rest) => {
                     if byte == LF {
-                        return First {
+                        return Ok(First {
                             reader,
                             input: rest,
-                        };
+                        });
                     }
                     reader = reader.step(byte);
                     self = rest;
                 }
             }
         }
-        First {
+        Ok(First {
             reader,
             input: self,
-        }
+        })
     }
 
     // The next line is passed over; it may end with the input.
-    fn pass_line(mut self, buffer: &mut [u8]) -> Passed {
+    fn pass_line<R: Read>(mut self, from: &mut R, buffer: &mut [u8]) -> Result<Passed> {
         let mut is_begun = false;
         for _ in 0..TURNS {
-            match self.next(buffer) {
+            match self.next(from, buffer)? {
                 Next::End => {
-                    return last_line(is_begun, self);
+                    return Ok(last_line(is_begun, self));
                 }
                 Next::Byte(byte, rest) => {
                     if byte == LF {
-                        return Passed::Line(rest);
+                        return Ok(Passed::Line(rest));
                     }
                     is_begun = true;
                     self = rest;
                 }
             }
         }
-        Passed::End
+        Ok(Passed::End)
     }
 }
 
@@ -111,28 +111,33 @@ fn last_line(is_begun: bool, input: Input) -> Passed {
 }
 
 // Reads once.
-fn fill(buffer: &mut [u8]) -> Next {
-    let got = libc::read(STDIN_FILENO, buffer);
-    let end = io::count(got, buffer);
+fn fill<R: Read>(from: &mut R, buffer: &mut [u8]) -> Result<Next> {
+    let end = from.read(buffer)?;
     if end == 0 {
-        return Next::End;
+        return Ok(Next::End);
     }
-    Next::Byte(buffer[0], Input { at: 1, end })
+    Ok(Next::Byte(buffer[0], Input { at: 1, end }))
 }
 
 // The sizes are outside the limits: each line is refused.
-pub fn refuse_lines(mut input: Input, buffer: &mut [u8], out: &mut [u8]) {
+pub fn refuse_lines<R: Read, W: Write>(
+    from: &mut R,
+    to: &mut W,
+    mut input: Input,
+    buffer: &mut [u8],
+    out: &mut [u8],
+) -> Result<()> {
     let mut at = 0;
     for _ in 0..TURNS {
-        match input.pass_line(buffer) {
+        match input.pass_line(from, buffer)? {
             Passed::End => {
-                flush(out, at);
-                return;
+                return flush(to, out, at);
             }
             Passed::Line(rest) => {
-                at = put_text(out, at, b"1 -\n");
+                at = put_text(to, out, at, b"1 -\n")?;
                 input = rest;
             }
         }
     }
+    Ok(())
 }

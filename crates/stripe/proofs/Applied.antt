@@ -1,8 +1,7 @@
 -- The nodes after a change, place by place. Assumes nothing.
 use mathlib.Core.Path.{◌≡◌, refl, sym, ◌∙◌}
-use mathlib.Core.Logic.{◌⊎◌, inl, inr}
 use mathlib.Core.List.{List}
-use Prim.Native.Nat.{ℕ, suc, ◌≤◌, ◌<◌, min}
+use Prim.Native.Nat.{ℕ, suc, ◌≤◌, ◌<◌}
 use native.Mathlib.Decide.{dec_lt}
 use native.Mathlib.Omega.{arith}
 use lib.ListN.{length, get_or, length-map}
@@ -14,7 +13,7 @@ use Rattle.code.specs.View.{node_set_of}
 use Rattle.basics.proofs.Lists.{length_from}
 use Rattle.machine.proofs.Elements.{length-restored, restored-first, restored-rest}
 use Rattle.records.specs.declared.Lmode.TheVariants.{Unl}
-use Rattle.records.specs.Node.{Node, failed_node, expired_for, given_back}
+use Rattle.records.specs.Node.{Node, failed_node, expired_for}
 use Rattle.records.specs.View.{old_lmode, old_lmodes}
 use Rattle.stripe.specs.declared.seen.Change.{Change}
 use Rattle.stripe.specs.declared.seen.Change.TheVariants.{Keep, Expire, Restore, Weaken, Tick}

@@ -12,8 +12,7 @@ use Rattle.code.specs.Decode.{NodeSet, has, set_of, no_nodes, including, excludi
 use Rattle.code.proofs.Members.{set-cong}
 use Rattle.code.proofs.NodeSets.{has-set_of}
 use Rattle.machine.specs.Stripe.{node_at}
-use Rattle.machine.specs.Rebuild.{f, fits}
-use Rattle.entries.specs.View.{entries_of}
+use Rattle.machine.specs.Rebuild.{fits}
 use Rattle.entries.proofs.Lists.{entries-count}
 use Rattle.records.specs.declared.Sizes.{Sizes}
 use Rattle.records.specs.Node.{is_norm}

@@ -1,5 +1,5 @@
 -- How the records of the code are seen as those of the machine. Assumes nothing.
-use Rattle.std.specs.Prelude.{List, [], ℕ, suc, ◌≤◌, ◌<◌, get_or}
+use Rattle.std.specs.Prelude.{List, [], ℕ, ◌≤◌, ◌<◌, get_or}
 use Rattle.basics.specs.Lists.{list_of}
 use Rattle.entries.specs.Entries.{entry_limit}
 use Rattle.entries.specs.declared.WriteId.{WriteId}

@@ -9,6 +9,7 @@ use calls::Answer;
 use code::Limits;
 use records::{Refusal, Sizes};
 use script::reader::Line;
+use std::io::{Read, Result, Write};
 use step::{Played, Stripe};
 use streams::input::{Input, TURNS};
 use streams::output::flush;
@@ -55,7 +56,8 @@ fn play(
 }
 
 // What a line asks for, and the line that is printed of it.
-fn step(
+fn step<W: Write>(
+    to: &mut W,
     z: Sizes,
     order: Order,
     value: &[u8],
@@ -64,18 +66,30 @@ fn step(
     blocks: &mut [u8],
     spare: &mut [u8],
     differences: &mut [u8],
-) -> State
+) -> Result<State>
     requires { Tables z blocks.old }
 {
     let stripe = before.stripe;
     let played = play(z, order, value, stripe, blocks, spare, differences);
-    let at = put_played(out, before.at, z, order, played, blocks, spare, differences);
+    let at = put_played(
+        to,
+        out,
+        before.at,
+        z,
+        order,
+        played,
+        blocks,
+        spare,
+        differences,
+    )?;
     let stripe = played.stripe;
-    State { stripe, at }
+    Ok(State { stripe, at })
 }
 
 // What each line asks for, on a fresh stripe whose tables are lent.
-fn play_lent(
+fn play_lent<R: Read, W: Write>(
+    from: &mut R,
+    to: &mut W,
     z: Sizes,
     mut input: Input,
     buffer: &mut [u8],
@@ -84,23 +98,23 @@ fn play_lent(
     spare: &mut [u8],
     differences: &mut [u8],
     value: &mut [u8],
-)
+) -> Result<()>
     requires { Tables z blocks.old }
 {
     let stripe = Stripe::fresh();
     let mut state = State { stripe, at: 0 };
     for _ in 0..TURNS {
-        match take_line(input, buffer, value) {
+        match take_line(from, input, buffer, value)? {
             Taken::End => {
-                flush(out, state.at);
-                return;
+                return flush(to, out, state.at);
             }
             Taken::Line(order, rest) => {
-                state = step(z, order, value, state, out, blocks, spare, differences);
+                state = step(to, z, order, value, state, out, blocks, spare, differences)?;
                 input = rest;
             }
         }
     }
+    Ok(())
 }
 
 fn table_length(blocks: usize, b: usize) -> usize
@@ -110,7 +124,14 @@ fn table_length(blocks: usize, b: usize) -> usize
     blocks * b
 }
 
-pub fn play_lines(z: Sizes, input: Input, buffer: &mut [u8], out: &mut [u8])
+pub fn play_lines<R: Read, W: Write>(
+    from: &mut R,
+    to: &mut W,
+    z: Sizes,
+    input: Input,
+    buffer: &mut [u8],
+    out: &mut [u8],
+) -> Result<()>
     requires { Within z }
 {
     let mut blocks = [0u8; Sizes::NODES * Limits::BLOCK_MOST];
@@ -122,6 +143,8 @@ pub fn play_lines(z: Sizes, input: Input, buffer: &mut [u8], out: &mut [u8])
     let of_nodes = table_length(z.n, b);
     let of_clients = table_length(z.m, b);
     play_lent(
+        from,
+        to,
         z,
         input,
         buffer,
@@ -130,5 +153,5 @@ pub fn play_lines(z: Sizes, input: Input, buffer: &mut [u8], out: &mut [u8])
         &mut spare[0..of_nodes],
         &mut differences[0..of_clients],
         &mut value[0..longer],
-    );
+    )
 }

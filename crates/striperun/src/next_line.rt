@@ -1,5 +1,6 @@
 // The lines of standard input.
 use script::reader::{Line, LineReader};
+use std::io::{Read, Result};
 use streams::input::{Input, LF, Next, TURNS};
 
 // What a line asks for: a call, or the image of the stripe, `M`, which is no call of the machine.
@@ -53,17 +54,22 @@ impl Begun {
 }
 
 // The next line, which may end with the input. Its value goes to the buffer lent for it.
-pub fn take_line(mut input: Input, buffer: &mut [u8], value: &mut [u8]) -> Taken {
+pub fn take_line<R: Read>(
+    from: &mut R,
+    mut input: Input,
+    buffer: &mut [u8],
+    value: &mut [u8],
+) -> Result<Taken> {
     let mut reader = LineReader::new();
     let mut begun = Begun::Nothing;
     for _ in 0..TURNS {
-        match input.next(buffer) {
+        match input.next(from, buffer)? {
             Next::End => {
-                return begun.last_line(reader, input);
+                return Ok(begun.last_line(reader, input));
             }
             Next::Byte(byte, rest) => {
                 if byte == LF {
-                    return Taken::Line(begun.order(reader), rest);
+                    return Ok(Taken::Line(begun.order(reader), rest));
                 }
                 reader = reader.step(byte, value);
                 begun = begun.step(byte);
@@ -71,5 +77,5 @@ pub fn take_line(mut input: Input, buffer: &mut [u8], value: &mut [u8]) -> Taken
             }
         }
     }
-    Taken::End
+    Ok(Taken::End)
 }

@@ -9,6 +9,7 @@ use calls::{Call, shown_part};
 use format::state::put_state;
 use records::Sizes;
 use script::reader::Line;
+use std::io::{Result, Write};
 use step::Played;
 use streams::output::put_text;
 
@@ -35,7 +36,8 @@ fn position(line: Line) -> u8 {
 }
 
 // The answer, and what is returned with it.
-fn put_returned<'a>(
+fn put_returned<'a, W: Write>(
+    to: &mut W,
     out: &mut [u8],
     at: usize,
     z: Sizes,
@@ -44,23 +46,24 @@ fn put_returned<'a>(
     blocks: &'a [u8],
     spare: &'a [u8],
     differences: &[u8],
-) -> usize
+) -> Result<usize>
     requires { z.m ≤ client_limit }
 {
     let answer = played.answer;
     let stripe = played.stripe;
     let clients = stripe.clients;
     match order {
-        Order::Image => put_image(out, at, z, stripe, blocks, spare, differences),
+        Order::Image => put_image(to, out, at, z, stripe, blocks, spare, differences),
         Order::Call(line) => {
             let shown = shown_part(answer, z.b, position(line) as usize, blocks, spare);
-            put_answer(out, at, z.m, picker(line), answer, clients, shown)
+            put_answer(to, out, at, z.m, picker(line), answer, clients, shown)
         }
     }
 }
 
 // The line of a call or of an image.
-pub fn put_played<'a>(
+pub fn put_played<'a, W: Write>(
+    to: &mut W,
     out: &mut [u8],
     mut at: usize,
     z: Sizes,
@@ -69,13 +72,13 @@ pub fn put_played<'a>(
     blocks: &'a [u8],
     spare: &'a [u8],
     differences: &[u8],
-) -> usize
+) -> Result<usize>
     requires { Tables z blocks.now }
 {
     let stripe = played.stripe;
     let nodes = stripe.nodes;
     let clients = stripe.clients;
-    at = put_returned(out, at, z, order, played, blocks, spare, differences);
-    at = put_text(out, at, b" | ");
-    put_state(out, at, z, nodes, clients, blocks, spare, differences)
+    at = put_returned(to, out, at, z, order, played, blocks, spare, differences)?;
+    at = put_text(to, out, at, b" | ")?;
+    put_state(to, out, at, z, nodes, clients, blocks, spare, differences)
 }

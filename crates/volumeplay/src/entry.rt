@@ -1,11 +1,12 @@
 // The lines of a script, one after the other, on the volume's tables. Each of these is walked by a law.
-ghost use Rattle.std.specs.Prelude.{◌≡◌};
+ghost use Rattle.std.specs.Prelude.{◌≡◌, IfOk};
 ghost use Rattle.volumeplay.specs.Asking.{AnswersPart, CallsPart};
 
 use crate::table::{take_clients, take_nodes};
 use crate::{CLIENTS, NODES, Player, Turn};
 use calls::Answer;
 use records::{ClientRecord, NodeRecord};
+use std::io::{Read, Result, Write};
 
 // The line's call, on the tables' parts of the volume.
 fn call_part(
@@ -67,7 +68,9 @@ fn read_part(nodes: &[NodeRecord], clients: &[ClientRecord], turn: Turn) -> Answ
 }
 
 // All lines, from fresh records on.
-pub fn play(
+pub fn play<R: Read, W: Write>(
+    from: &mut R,
+    to: &mut W,
     blocks: &mut [u8],
     spare: &mut [u8],
     differences: &mut [u8],
@@ -77,14 +80,14 @@ pub fn play(
     node: NodeRecord,
     client: ClientRecord,
     start: Player,
-) -> Player
-    ensures { result.left ≡ 0 }
+) -> Result<Player>
+    ensures { IfOk result (λ player. player.left ≡ 0) }
 {
     let mut nodes = [node; NODES];
     let mut clients = [client; CLIENTS];
     let mut now = start;
     while now.goes_on() {
-        let turn = now.next(buffer, value);
+        let turn = now.next(from, buffer, value)?;
         let answer = call_part(
             &mut nodes,
             &mut clients,
@@ -97,8 +100,18 @@ pub fn play(
         let told = read_part(&nodes, &clients, turn);
         let seen = take_nodes(&nodes, turn);
         let taken = take_clients(&clients, turn);
-        let next = turn.print(answer, told, seen, taken, blocks, spare, differences, out);
+        let next = turn.print(
+            to,
+            answer,
+            told,
+            seen,
+            taken,
+            blocks,
+            spare,
+            differences,
+            out,
+        )?;
         now = next;
     }
-    now
+    Ok(now)
 }

@@ -3,6 +3,7 @@
 // The records of all nodes and clients are local arrays of one function, which plays the lines (entry.rt): the toolchain walks no function over a slice of
 // structs by itself, so this function and those that it lends the records to do nothing else, and each is walked by a law. All the rest is by value.
 #![tactic(auto)]
+
 mod asking; // asking.rt: what a turn asks of the volume, and of which part of the tables
 pub mod entry; // entry.rt: the lines of a script, one after the other, on the volume's tables
 mod show; // show.rt: what is printed of a line

@@ -1,7 +1,8 @@
 // The lines of standard input.
-ghost use Rattle.std.specs.Prelude.{◌≡◌, ltb, ◌-◌};
+ghost use Rattle.std.specs.Prelude.{◌≡◌, ltb, ◌-◌, IfOk};
 
 use crate::{Player, Turn};
+use std::io::{Read, Result};
 use streams::input::{Input, LF, Next, TURNS};
 use volumescript::reader::{VolumeLine, VolumeReader};
 
@@ -13,17 +14,22 @@ pub enum Taken {
 }
 
 // The next line, which may end with the input. Its value goes to the buffer lent for it.
-fn take_line(mut input: Input, buffer: &mut [u8], value: &mut [u8]) -> Taken {
+fn take_line<R: Read>(
+    from: &mut R,
+    mut input: Input,
+    buffer: &mut [u8],
+    value: &mut [u8],
+) -> Result<Taken> {
     let mut reader = VolumeReader::new();
     let mut is_begun = false;
     for _ in 0..TURNS {
-        match input.next(buffer) {
+        match input.next(from, buffer)? {
             Next::End => {
-                return last_line(is_begun, reader, input);
+                return Ok(last_line(is_begun, reader, input));
             }
             Next::Byte(byte, rest) => {
                 if byte == LF {
-                    return Taken::Line(reader.finish(), rest);
+                    return Ok(Taken::Line(reader.finish(), rest));
                 }
                 reader = reader.step(byte, value);
                 is_begun = true;
@@ -31,7 +37,7 @@ fn take_line(mut input: Input, buffer: &mut [u8], value: &mut [u8]) -> Taken {
             }
         }
     }
-    Taken::End
+    Ok(Taken::End)
 }
 
 // What the end of the input leaves: a line if one was begun.
@@ -56,14 +62,19 @@ impl Player {
         0 < self.left
     }
 
-    pub(crate) fn next(self, buffer: &mut [u8], value: &mut [u8]) -> Turn
-        ensures { result.player.left ≡ self.left - 1 }
+    pub(crate) fn next<R: Read>(
+        self,
+        from: &mut R,
+        buffer: &mut [u8],
+        value: &mut [u8],
+    ) -> Result<Turn>
+        ensures { IfOk result (λ turn. turn.player.left ≡ self.left - 1) }
     {
         let left = one_less(self.left);
         let volume = self.volume;
         let input = self.input;
         let at = self.at;
-        match take_line(input, buffer, value) {
+        match take_line(from, input, buffer, value)? {
             Taken::End => {
                 let player = Player {
                     left: left,
@@ -71,11 +82,11 @@ impl Player {
                     input: input,
                     at: at,
                 };
-                Turn {
+                Ok(Turn {
                     player: player,
                     line: VolumeLine::Unreadable,
                     is_end: true,
-                }
+                })
             }
             Taken::Line(line, rest) => {
                 let player = Player {
@@ -84,11 +95,11 @@ impl Player {
                     input: rest,
                     at: at,
                 };
-                Turn {
+                Ok(Turn {
                     player: player,
                     line: line,
                     is_end: false,
-                }
+                })
             }
         }
     }

@@ -1,5 +1,5 @@
 // What is printed of a line: `ANSWER RETURNED`, or `0 STATE`.
-ghost use Rattle.std.specs.Prelude.{◌≤◌};
+ghost use Rattle.std.specs.Prelude.{◌≤◌, IfOk};
 
 use crate::stripes::{ClientsTaken, NodesTaken};
 use crate::{Player, Turn};
@@ -8,6 +8,7 @@ use blocks::block_of;
 use calls::Answer;
 use format::state::put_state;
 use records::Source;
+use std::io::{Result, Write};
 use step::Clients;
 use streams::output::{flush, put, put_text};
 use stripe::Nodes;
@@ -15,7 +16,8 @@ use tables::{Volume, stripe_part, table_blocks, table_differences};
 use volumescript::reader::VolumeLine;
 
 // Stripe s, if there is one.
-fn put_stripe(
+fn put_stripe<W: Write>(
+    to: &mut W,
     out: &mut [u8],
     at: usize,
     volume: Volume,
@@ -25,26 +27,27 @@ fn put_stripe(
     blocks: &[u8],
     spare: &[u8],
     differences: &[u8],
-) -> usize {
+) -> Result<usize> {
     let z = volume.z;
     if volume.stripes <= s {
-        return put_text(out, at, b"2 -\n");
+        return put_text(to, out, at, b"2 -\n");
     }
     if !z.within() {
-        return put_text(out, at, b"1 -\n");
+        return put_text(to, out, at, b"1 -\n");
     }
     let blocks = stripe_part(blocks, s, table_blocks(z));
     let spare = stripe_part(spare, s, table_blocks(z));
     let differences = stripe_part(differences, s, table_differences(z));
     if blocks.len() != table_blocks(z) {
-        return put_text(out, at, b"1 -\n");
+        return put_text(to, out, at, b"1 -\n");
     }
-    let next = put_text(out, at, b"0 ");
-    put_state(out, next, z, nodes, clients, blocks, spare, differences)
+    let next = put_text(to, out, at, b"0 ")?;
+    put_state(to, out, next, z, nodes, clients, blocks, spare, differences)
 }
 
 // An answer, and what is returned with it; the block that a read shows is in this table.
-fn put_given(
+fn put_given<W: Write>(
+    to: &mut W,
     out: &mut [u8],
     at: usize,
     volume: Volume,
@@ -52,20 +55,21 @@ fn put_given(
     given: Answer,
     clients: Clients,
     table: &[u8],
-) -> usize {
+) -> Result<usize> {
     let z = volume.z;
     if !z.within() {
-        return put_text(out, at, b"1 -\n");
+        return put_text(to, out, at, b"1 -\n");
     }
     let read = line.read(volume);
     let own = stripe_part(table, read.stripe, table_blocks(z));
     let shown = block_of(own, z.b, read.i as usize);
-    let next = put_answer(out, at, z.m, line.picker(), given, clients, shown);
-    put(out, next, b'\n')
+    let next = put_answer(to, out, at, z.m, line.picker(), given, clients, shown)?;
+    put(to, out, next, b'\n')
 }
 
 // The answer of the call, and that of the read: one of them was refused, since a line is not both.
-fn put_call(
+fn put_call<W: Write>(
+    to: &mut W,
     out: &mut [u8],
     at: usize,
     volume: Volume,
@@ -75,21 +79,22 @@ fn put_call(
     clients: Clients,
     blocks: &[u8],
     spare: &[u8],
-) -> usize {
+) -> Result<usize> {
     let given = if line.is_read() { told } else { answer };
     let Answer::Shown(source) = given else {
-        return put_given(out, at, volume, line, given, clients, blocks);
+        return put_given(to, out, at, volume, line, given, clients, blocks);
     };
     match source {
-        Source::Live => put_given(out, at, volume, line, given, clients, blocks),
-        Source::Spare => put_given(out, at, volume, line, given, clients, spare),
+        Source::Live => put_given(to, out, at, volume, line, given, clients, blocks),
+        Source::Spare => put_given(to, out, at, volume, line, given, clients, spare),
     }
 }
 
 impl Turn {
     // Prints the line; at the end of the input, what is left in the buffer.
-    pub(crate) fn print(
+    pub(crate) fn print<W: Write>(
         self,
+        to: &mut W,
         answer: Answer,
         told: Answer,
         seen: NodesTaken,
@@ -98,8 +103,8 @@ impl Turn {
         spare: &[u8],
         differences: &[u8],
         out: &mut [u8],
-    ) -> Player
-        ensures { result.left ≤ self.player.left }
+    ) -> Result<Player>
+        ensures { IfOk result (λ player. player.left ≤ self.player.left) }
     {
         let player = self.player;
         let line = self.line;
@@ -108,16 +113,17 @@ impl Turn {
         let nodes = seen.nodes;
         let clients = taken.clients;
         if self.is_end {
-            flush(out, player.at);
-            return Player {
+            flush(to, out, player.at)?;
+            return Ok(Player {
                 left: 0,
                 volume: volume,
                 input: input,
                 at: 0,
-            };
+            });
         }
         let next = match line {
             VolumeLine::Show(s) => put_stripe(
+                to,
                 out,
                 player.at,
                 volume,
@@ -127,16 +133,16 @@ impl Turn {
                 blocks,
                 spare,
                 differences,
-            ),
+            )?,
             _ => put_call(
-                out, player.at, volume, line, answer, told, clients, blocks, spare,
-            ),
+                to, out, player.at, volume, line, answer, told, clients, blocks, spare,
+            )?,
         };
-        Player {
+        Ok(Player {
             left: player.left,
             volume: volume,
             input: input,
             at: next,
-        }
+        })
     }
 }

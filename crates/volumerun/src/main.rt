@@ -1,9 +1,11 @@
 // Plays a script on a volume of many stripes, in fixed memory.
 #![tactic(auto)]
+
 ghost use Rattle.std.specs.Prelude.{◌≡◌};
 ghost use Rattle.volumerun.specs.Memory.{Fits, fits_in};
 
 use records::{ClientRecord, NodeRecord};
+use std::io::{Read, Result, Write};
 use streams::input::{Input, TURNS, refuse_lines};
 use streams::output::{flush, put_text};
 use tables::Volume;
@@ -27,7 +29,14 @@ fn fits(volume: Volume) -> bool
 }
 
 // The script, on a fresh volume.
-fn play_lines(volume: Volume, input: Input, buffer: &mut [u8], out: &mut [u8])
+fn play_lines<R: Read, W: Write>(
+    from: &mut R,
+    to: &mut W,
+    volume: Volume,
+    input: Input,
+    buffer: &mut [u8],
+    out: &mut [u8],
+) -> Result<()>
     requires { Fits volume }
 {
     let mut blocks = [0u8; BLOCKS];
@@ -44,6 +53,8 @@ fn play_lines(volume: Volume, input: Input, buffer: &mut [u8], out: &mut [u8])
         at: 0,
     };
     entry::play(
+        from,
+        to,
         &mut blocks[0..of_nodes],
         &mut spare[0..of_nodes],
         &mut differences[0..of_clients],
@@ -53,13 +64,16 @@ fn play_lines(volume: Volume, input: Input, buffer: &mut [u8], out: &mut [u8])
         NodeRecord::fresh(),
         ClientRecord::fresh(),
         start,
-    );
+    )?;
+    Ok(())
 }
 
-fn main() {
-    let mut buffer = io::large_buffer();
-    let mut out = io::large_buffer();
-    let first = Input::new().first(&mut buffer);
+fn main(rt: HostRuntime) -> Result<()> {
+    let mut from = rt.stdin();
+    let mut to = rt.stdout();
+    let mut buffer = [0u8; 65536];
+    let mut out = [0u8; 65536];
+    let first = Input::new().first(&mut from, &mut buffer)?;
     let reader = first.reader;
     let input = first.input;
     let sizes = reader.finish_volume();
@@ -69,11 +83,11 @@ fn main() {
         z: z,
     };
     if !volume.within() {
-        refuse_lines(input, &mut buffer, &mut out);
+        refuse_lines(&mut from, &mut to, input, &mut buffer, &mut out)
     } else if fits(volume) {
-        play_lines(volume, input, &mut buffer, &mut out);
+        play_lines(&mut from, &mut to, volume, input, &mut buffer, &mut out)
     } else {
-        let at = put_text(&mut out, 0, b"too large\n");
-        flush(&out, at);
+        let at = put_text(&mut to, &mut out, 0, b"too large\n")?;
+        flush(&mut to, &out, at)
     }
 }

@@ -1,12 +1,10 @@
 -- `blocks::add_times` meets its contract: after i turns dst has the first i bytes of the sum. Assumes nothing.
 use mathlib.Core.Path.{ap, ◌∙◌}
-use Prim.Native.Nat.{◌≤◌, ◌-◌}
 use native.Mathlib.Omega.{arith}
-use lib.ListN.{length, get_or}
+use lib.ListN.{get_or}
 use borrow.Author.Rules.{rules}
 use Rattle.gf256.specs.Field.{product}
-use Rattle.blocks.specs.Blocks.{add_times}
-use Rattle.blocks.proofs.Fill.{Filled, filled_none, zip_turn, zip-all}
+use Rattle.blocks.proofs.Fill.{filled_none, zip_turn, zip-all}
 use Rattle.blocks.proofs.add_times.Goals as goal
 
 pub loop-i-init : goal.loop-i-init

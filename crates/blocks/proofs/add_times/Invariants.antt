@@ -1,12 +1,8 @@
 -- `blocks::add_times` meets its contract: after i turns dst has the first i bytes of the sum. Assumes nothing.
-use mathlib.Core.Path.{ap, ◌∙◌}
 use Prim.Native.Nat.{◌≤◌, ◌-◌}
-use native.Mathlib.Omega.{arith}
-use lib.ListN.{length, get_or}
-use borrow.Author.Rules.{rules}
-use Rattle.gf256.specs.Field.{product}
+use lib.ListN.{length}
 use Rattle.blocks.specs.Blocks.{add_times}
-use Rattle.blocks.proofs.Fill.{Filled, filled_none, zip_turn, zip-all}
+use Rattle.blocks.proofs.Fill.{Filled}
 use Rattle.blocks.proofs.add_times.Given as goal
 
 abbrev pub invariant-loop-i : goal.invariant-loop-i

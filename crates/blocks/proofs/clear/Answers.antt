@@ -1,11 +1,10 @@
 -- `blocks::clear` meets its contract: after i turns dst has i zeros. Assumes nothing.
 use mathlib.Core.Path.{sym}
-use Prim.Native.Nat.{◌≤◌, ◌-◌}
 use native.Mathlib.Omega.{arith}
 use lib.ListN.{length}
-use lib.ListN.{replicate, length-replicate, get_or-replicate}
+use lib.ListN.{length-replicate, get_or-replicate}
 use borrow.Author.Rules.{rules}
-use Rattle.blocks.proofs.Fill.{Filled, filled_none, filled-turn, filled-all}
+use Rattle.blocks.proofs.Fill.{filled_none, filled-turn, filled-all}
 use Rattle.blocks.proofs.clear.Goals as goal
 
 pub loop-i-init : goal.loop-i-init

@@ -1,11 +1,8 @@
 -- `blocks::clear` meets its contract: after i turns dst has i zeros. Assumes nothing.
-use mathlib.Core.Path.{sym}
 use Prim.Native.Nat.{◌≤◌, ◌-◌}
-use native.Mathlib.Omega.{arith}
 use lib.ListN.{length}
-use lib.ListN.{replicate, length-replicate, get_or-replicate}
-use borrow.Author.Rules.{rules}
-use Rattle.blocks.proofs.Fill.{Filled, filled_none, filled-turn, filled-all}
+use lib.ListN.{replicate}
+use Rattle.blocks.proofs.Fill.{Filled}
 use Rattle.blocks.proofs.clear.Given as goal
 
 abbrev pub invariant-loop-i : goal.invariant-loop-i

@@ -1,10 +1,8 @@
 -- `blocks::copy` meets its contract: after i turns dst has the first i bytes of src. Assumes nothing.
 use mathlib.Core.Path.{refl}
-use Prim.Native.Nat.{◌≤◌, ◌-◌}
 use native.Mathlib.Omega.{arith}
-use lib.ListN.{length}
 use borrow.Author.Rules.{rules}
-use Rattle.blocks.proofs.Fill.{Filled, filled_none, filled-turn, filled-all}
+use Rattle.blocks.proofs.Fill.{filled_none, filled-turn, filled-all}
 use Rattle.blocks.proofs.copy.Goals as goal
 
 pub loop-i-init : goal.loop-i-init

@@ -1,12 +1,10 @@
 -- `blocks::swap` meets its contract: after i turns block has the first i bytes of the value, and difference those of the difference. Assumes nothing.
 use mathlib.Core.Path.{refl, sym, ap, ◌∙◌}
-use Prim.Native.Nat.{◌≤◌, ◌-◌}
 use native.Mathlib.Omega.{arith}
 use lib.Bits.{bit_xor}
-use lib.ListN.{length, get_or}
+use lib.ListN.{get_or}
 use borrow.Author.Rules.{rules}
-use Rattle.blocks.specs.Blocks as Blocks
-use Rattle.blocks.proofs.Fill.{Filled, filled_none, filled-turn, filled-rest, filled-all, zip_length, zip-at}
+use Rattle.blocks.proofs.Fill.{filled_none, filled-turn, filled-rest, filled-all, zip_length, zip-at}
 use Rattle.blocks.proofs.swap.Goals as goal
 
 pub loop-i-init : goal.loop-i-init

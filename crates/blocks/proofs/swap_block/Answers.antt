@@ -1,6 +1,5 @@
 -- `blocks::swap_block` meets its contract: the part comes back as `set_part` puts it. Assumes nothing.
 use native.Mathlib.Nat.{add-sub_cancel_left}
-use borrow.Author.Rules.{rules}
 use Rattle.blocks.specs.Blocks.{part, set_part}
 use Rattle.blocks.proofs.swap_block.Goals as goal
 

@@ -1,5 +1,4 @@
 -- `code::coefficient` meets its contract. Assumes nothing.
-use borrow.Author.Rules.{rules}
 use Rattle.code.specs.Code.{coefficient}
 use Rattle.code.proofs.coefficient.Goals as goal
 

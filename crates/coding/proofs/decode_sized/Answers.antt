@@ -1,7 +1,6 @@
 -- `coding::decode_sized` meets its contract. Assumes nothing.
 use mathlib.Core.Path.{sym, ap, ◌∙◌}
 use native.Mathlib.Omega.{arith}
-use borrow.Author.Rules.{rules}
 use Rattle.code.specs.Decode.{size}
 use Rattle.coding.proofs.Decoded.{decoding-outside, decoding-few, decoding-accepted, given-held}
 use Rattle.code.proofs.Sizes.{sizes-of}

@@ -1,11 +1,8 @@
 -- `coding::set_of` meets its contract: after i turns the set has the first i nodes. Assumes nothing.
-use mathlib.Core.Path.{◌≡◌, ◌∙◌}
-use Prim.Native.Nat.{◌≤◌, ◌-◌}
+use mathlib.Core.Path.{◌∙◌}
 use native.Mathlib.Omega.{arith}
-use lib.ListN.{length, take}
 use borrow.Author.Rules.{rules}
-use Rattle.code.specs.Calls.{given_set, is_in}
-use Rattle.code.specs.View.{node_set_of}
+use Rattle.code.specs.Calls.{is_in}
 use Rattle.coding.proofs.Given.{given-next, given-all}
 use Rattle.coding.proofs.set_of.Goals as goal
 

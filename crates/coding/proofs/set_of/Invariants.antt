@@ -1,12 +1,9 @@
 -- `coding::set_of` meets its contract: after i turns the set has the first i nodes. Assumes nothing.
-use mathlib.Core.Path.{◌≡◌, ◌∙◌}
+use mathlib.Core.Path.{◌≡◌}
 use Prim.Native.Nat.{◌≤◌, ◌-◌}
-use native.Mathlib.Omega.{arith}
 use lib.ListN.{length, take}
-use borrow.Author.Rules.{rules}
-use Rattle.code.specs.Calls.{given_set, is_in}
+use Rattle.code.specs.Calls.{given_set}
 use Rattle.code.specs.View.{node_set_of}
-use Rattle.coding.proofs.Given.{given-next, given-all}
 use Rattle.coding.proofs.set_of.Given as goal
 
 abbrev pub invariant-loop-i : goal.invariant-loop-i

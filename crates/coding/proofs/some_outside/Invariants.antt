@@ -1,11 +1,8 @@
 -- `coding::some_outside` meets its contract: what is left to search answers for the whole. Assumes nothing.
-use mathlib.Core.Path.{◌≡◌, sym, ◌∙◌}
+use mathlib.Core.Path.{◌≡◌}
 use Prim.Native.Nat.{◌≤◌, ◌-◌}
-use native.Mathlib.Omega.{arith}
 use lib.ListN.{length, drop}
-use borrow.Author.Rules.{rules}
 use Rattle.code.specs.Calls.{some_outside}
-use Rattle.coding.proofs.Given.{outside_low, outside_high, outside-none, outside-end}
 use Rattle.coding.proofs.some_outside.Given as goal
 
 abbrev pub invariant-loop-i : goal.invariant-loop-i

@@ -2,7 +2,6 @@
 use mathlib.Core.Logic.{⊎_elim}
 use native.Mathlib.Nat.{eq-zero-or-pos}
 use native.Mathlib.Omega.{arith}
-use borrow.Author.Rules.{rules}
 use Rattle.gf256.proofs.index.Goals as goal
 
 pub returns : goal.returns

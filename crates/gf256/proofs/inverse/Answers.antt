@@ -1,6 +1,5 @@
 -- `gf256::inverse` meets its contract: the logarithm of the inverse is 255 less that of a. Assumes nothing.
 use mathlib.Core.Path.{◌∙◌}
-use borrow.Author.Rules.{rules}
 use Rattle.gf256.specs.Field.{inverse}
 use Rattle.gf256.proofs.Laws.{unless, inverse-zero, inverse-by-logarithm}
 use Rattle.gf256.proofs.inverse.Goals as goal

@@ -1,6 +1,5 @@
 -- `gf256::logarithm` meets its contract: the table's rule at i. Assumes nothing.
 use native.Mathlib.Omega.{arith}
-use borrow.Author.Rules.{rules}
 use Rattle.gf256.proofs.logarithm.Goals as goal
 
 pub overflow_cast-result : goal.overflow_cast-result

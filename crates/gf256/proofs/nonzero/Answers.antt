@@ -1,6 +1,5 @@
 -- `gf256::nonzero` meets its contract: a and 255 are 256 or more where a is not 0. Assumes nothing.
 use native.Mathlib.Omega.{arith}
-use borrow.Author.Rules.{rules}
 use Rattle.gf256.proofs.nonzero.Goals as goal
 
 pub returns : goal.returns

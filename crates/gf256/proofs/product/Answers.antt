@@ -1,6 +1,5 @@
 -- `gf256::product` meets its contract: logarithms add, and a product with 0 is 0. Assumes nothing.
 use mathlib.Core.Path.{ap₂, ◌∙◌}
-use borrow.Author.Rules.{rules}
 use Rattle.gf256.specs.Field.{product}
 use Rattle.gf256.proofs.Laws.{unless, zero-product, product-zero, power-add}
 use Rattle.gf256.proofs.product.Goals as goal

@@ -1,7 +1,6 @@
 -- `gf256::unless_zero` meets its contract: 0 times r is 0, and 1 times r is r. Assumes nothing.
 use mathlib.Core.Logic.{⊎_elim}
 use native.Mathlib.Nat.{eq-zero-or-pos, zero-mul, one-mul}
-use native.Mathlib.Omega.{arith}
 use borrow.Author.Rules.{rules}
 use Rattle.gf256.proofs.unless_zero.Goals as goal
 

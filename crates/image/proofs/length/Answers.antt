@@ -1,6 +1,5 @@
 -- `image::length` meets its contract. Assumes nothing.
 use mathlib.Core.Path.{sym, ap, ◌∙◌}
-use borrow.Author.Rules.{rules}
 use Rattle.image.specs.declared.Places.{Places}
 use Rattle.image.proofs.length.Goals as goal
 

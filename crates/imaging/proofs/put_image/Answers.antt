@@ -3,7 +3,6 @@ use mathlib.Core.Path.{◌≡◌, refl, ap, ◌∙◌}
 use Prim.Native.Nat.{◌+◌, ◌*◌}
 use native.Mathlib.Omega.{arith}
 use lib.ListN.{length}
-use borrow.Author.Rules.{rules}
 use Rattle.octets.proofs.Filling.{fill, filled_none, full}
 use Rattle.image.specs.declared.Places.{Places}
 use Rattle.image.specs.Image.{sizes_bytes, nodes_bytes, clients_bytes, header, image, image_length}

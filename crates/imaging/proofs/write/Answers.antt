@@ -1,6 +1,5 @@
 -- The two tests, and then the image. Assumes nothing.
 use mathlib.Core.Path.{sym, ◌∙◌}
-use borrow.Author.Rules.{rules}
 use borrow.Author.Tests.{not-true, not-false}
 use Rattle.step.specs.View.{stripe_of}
 use Rattle.imaging.proofs.Written.{refused-outside, refused-length, fits-length, accepted}

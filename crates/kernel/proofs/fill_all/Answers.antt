@@ -1,11 +1,9 @@
 -- `kernel::fill_all` meets its contract: after j turns the bytes of the first j blocks are there. Assumes nothing.
 use mathlib.Core.Path.{◌≡◌, ◌∙◌}
-use Prim.Native.Nat.{◌≤◌, ◌+◌, ◌-◌, ◌*◌}
+use Prim.Native.Nat.{◌+◌, ◌*◌}
 use native.Mathlib.Omega.{arith}
-use lib.ListN.{length}
 use Rattle.blocks.specs.Blocks.{set_part}
 use Rattle.blocks.proofs.Parts.{lent_length}
-use Rattle.kernel.specs.Working.{Filled}
 use Rattle.kernel.proofs.Tiles.{filled_none, filled-fits, filled-turn}
 use borrow.Author.Rules.{rules}
 use Rattle.kernel.proofs.fill_all.Goals as goal

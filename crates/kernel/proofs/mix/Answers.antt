@@ -2,7 +2,6 @@
 use mathlib.Core.Path.{◌∙◌}
 use native.Mathlib.Omega.{arith}
 use Rattle.kernel.proofs.Mixed.{mixed-sources, mixed-table}
-use borrow.Author.Rules.{rules}
 use Rattle.kernel.proofs.mix.Goals as goal
 
 pub combine-requires : goal.combine-requires

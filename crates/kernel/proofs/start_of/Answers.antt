@@ -5,7 +5,6 @@ use native.Mathlib.Nat.{mul-le-mul_right}
 use native.Mathlib.Omega.{arith}
 use lib.ListN.{get_or}
 use Rattle.kernel.proofs.Mixed.{start-in, start-out}
-use borrow.Author.Rules.{rules}
 use Rattle.kernel.proofs.start_of.Goals as goal
 
 pub returns-then-nodes-q : goal.returns-then-nodes-q

@@ -1,10 +1,7 @@
 -- `kernel::starts_of` meets its contract. Assumes nothing.
-use mathlib.Core.Path.{refl}
 use Prim.Native.Nat.{◌≤◌, ◌-◌}
-use native.Mathlib.Omega.{arith}
 use Rattle.kernel.specs.Working.{start_of}
-use Rattle.blocks.proofs.Entries.{Begun, begun-none, begun-turn}
-use borrow.Author.Rules.{rules}
+use Rattle.blocks.proofs.Entries.{Begun}
 use Rattle.kernel.proofs.starts_of.Given as goal
 
 abbrev pub invariant-loop-q : goal.invariant-loop-q

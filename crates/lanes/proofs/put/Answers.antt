@@ -1,5 +1,5 @@
 -- `lanes::put` meets its contract: the part comes back as `set_part` puts it. Assumes nothing.
-use mathlib.Core.Path.{◌≡◌, sym, ◌∙◌}
+use mathlib.Core.Path.{sym, ◌∙◌}
 use Prim.Native.Nat.{◌-◌}
 use native.Mathlib.Omega.{arith}
 use lib.ListN.{length}
@@ -7,7 +7,6 @@ use lib.Seq.{length-take-le, take_all}
 use Rattle.blocks.specs.Blocks.{set_part}
 use Rattle.blocks.proofs.Parts.{lent_length}
 use Rattle.lanes.proofs.Sixteen.{put_is}
-use borrow.Author.Rules.{rules}
 use Rattle.lanes.proofs.put.Goals as goal
 
 pub slice_bounds-copy-end-then-n-lt16 : goal.slice_bounds-copy-end-then-n-lt16

@@ -6,7 +6,6 @@ use lib.Seq.{length-take-le}
 use Rattle.blocks.specs.Blocks.{part}
 use Rattle.lanes.proofs.Sixteen.{read_some, read_all}
 use Rattle.blocks.proofs.Parts.{lent_length}
-use borrow.Author.Rules.{rules}
 use Rattle.lanes.proofs.read.Goals as goal
 
 pub slice_bounds-copy-end : goal.slice_bounds-copy-end

@@ -1,12 +1,8 @@
 -- `lanes::read_all` meets its contract: after i turns the first i bytes are there. Assumes nothing.
-use mathlib.Core.Path.{sym}
 use Prim.Native.Nat.{◌≤◌, ◌-◌}
-use native.Mathlib.Omega.{arith}
 use lib.ListN.{replicate}
 use Rattle.blocks.specs.Blocks.{part}
-use Rattle.blocks.proofs.Fill.{Filled, filled_none, filled-turn, filled-all}
-use Rattle.blocks.proofs.Parts.{part_length, part_at}
-use borrow.Author.Rules.{rules}
+use Rattle.blocks.proofs.Fill.{Filled}
 use Rattle.lanes.proofs.read_all.Given as goal
 
 abbrev pub invariant-loop-i : goal.invariant-loop-i

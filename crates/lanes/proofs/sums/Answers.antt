@@ -1,10 +1,9 @@
 -- `lanes::sums` meets its contract: after i turns the sums of the first i places are there. Assumes nothing.
 use mathlib.Core.Path.{◌≡◌}
-use Prim.Native.Nat.{◌≤◌, ◌-◌}
 use native.Mathlib.Omega.{arith}
 use lib.ListN.{length-set}
 use borrow.Author.Rules.{rules}
-use Rattle.lanes.proofs.Sixteen.{Summing, stored, fifteen, summing-none, summing-turn, summing-all}
+use Rattle.lanes.proofs.Sixteen.{stored, fifteen, summing-none, summing-turn, summing-all}
 use Rattle.lanes.proofs.sums.Goals as goal
 
 pub loop-i-init : goal.loop-i-init

@@ -1,8 +1,7 @@
 -- `lanes::write` meets its contract: after i turns the first i bytes are there. Assumes nothing.
 use mathlib.Core.Path.{refl}
-use Prim.Native.Nat.{◌≤◌, ◌-◌}
 use native.Mathlib.Omega.{arith}
-use Rattle.blocks.proofs.Fill.{Filled, filled_none, filled-turn, filled-all}
+use Rattle.blocks.proofs.Fill.{filled_none, filled-turn, filled-all}
 use borrow.Author.Rules.{rules}
 use Rattle.lanes.proofs.write.Goals as goal
 

@@ -1,9 +1,6 @@
 -- `lanes::write` meets its contract: after i turns the first i bytes are there. Assumes nothing.
-use mathlib.Core.Path.{refl}
 use Prim.Native.Nat.{◌≤◌, ◌-◌}
-use native.Mathlib.Omega.{arith}
-use Rattle.blocks.proofs.Fill.{Filled, filled_none, filled-turn, filled-all}
-use borrow.Author.Rules.{rules}
+use Rattle.blocks.proofs.Fill.{Filled}
 use Rattle.lanes.proofs.write.Given as goal
 
 abbrev pub invariant-loop-i : goal.invariant-loop-i

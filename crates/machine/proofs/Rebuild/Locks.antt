@@ -10,7 +10,6 @@ use lib.Dec.{leb, ltb}
 use lib.ListN.{length, get_or, length-append}
 use borrow.Author.Tests.{leb-true, leb-false, ltb-true, eq-eqb, le-ltb, le-leb}
 use Rattle.records.specs.declared.Lmode.{Lmode}
-use Rattle.records.specs.declared.Lmode.TheVariants as Lmode
 use Rattle.records.specs.Node.{is_init, is_recons}
 use Rattle.records.specs.Node as Node
 use Rattle.records.specs.Client.{Rebuild, NoRebuild, Locking, Picking, Unlocking}

@@ -2,7 +2,6 @@
 use native.Mathlib.Omega.{arith}
 use mir.Facts.{to_z-of_z, to_z_pos}
 use mir.Syntax.{w64}
-use borrow.Author.Rules.{rules}
 use Rattle.planning.proofs.Pairs.{lowered-fits}
 use Rattle.planning.proofs.lowered.Goals as goal
 

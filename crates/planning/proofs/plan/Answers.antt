@@ -2,8 +2,8 @@
 use mathlib.Core.Path.{◌≡◌, sym, ap, ◌∙◌}
 use native.Mathlib.Omega.{arith}
 use mir.Facts.{to_z-of_z}
-use borrow.Author.Rules.{rules, sfits_of}
-use borrow.Author.Tests.{le-leb, lt-leb, not-true, not-false}
+use borrow.Author.Rules.{sfits_of}
+use borrow.Author.Tests.{le-leb, lt-leb}
 use Rattle.groups.specs.Groups.{groups_fit}
 use Rattle.groups.proofs.Kept.{kept-fits}
 use Rattle.planning.specs.Planning.{redundant_limit, stop_limit, serial_limit, plan_of}
@@ -32,7 +32,7 @@ returns-then-not-fit c = let a = c.args in
     rw (
       le-leb 1 a.redundant (omega arith),
       le-leb a.redundant redundant_limit (omega arith),
-      sym (fitting (goal.at.returns-then-not-fit c).After-fit) ∙ not-true c.fit.result c.if-not-fit.true-raw,
+      sym (fitting (goal.at.returns-then-not-fit c).After-fit) ∙ c.if-not-fit.true,
     )
 
 pub returns-then-stops-gt-STOPS_MOST : goal.returns-then-stops-gt-STOPS_MOST
@@ -41,7 +41,7 @@ returns-then-stops-gt-STOPS_MOST c = let a = c.args in
     rw (
       le-leb 1 a.redundant (omega arith),
       le-leb a.redundant redundant_limit (omega arith),
-      sym (fitting (goal.at.returns-then-stops-gt-STOPS_MOST c).After-fit) ∙ not-false c.fit.result c.if-not-fit.false-raw,
+      sym (fitting (goal.at.returns-then-stops-gt-STOPS_MOST c).After-fit) ∙ c.if-not-fit.false,
       lt-leb a.stops stop_limit (omega arith),
     )
 
@@ -56,6 +56,6 @@ returns c = let a = c.args in
       e,
       le-leb 1 a.redundant (omega arith),
       le-leb a.redundant redundant_limit (omega arith),
-      sym (fitting (goal.at.returns c).After-fit) ∙ not-false c.fit.result c.if-not-fit.false-raw,
+      sym (fitting (goal.at.returns c).After-fit) ∙ c.if-not-fit.false,
       le-leb a.stops stop_limit (omega arith),
     )

@@ -1,5 +1,4 @@
 -- By the phase. Assumes nothing.
-use borrow.Author.Rules.{rules}
 use Rattle.reading.proofs.has_picked.Goals as goal
 
 pub returns-in-NoRebuild : goal.returns-in-NoRebuild

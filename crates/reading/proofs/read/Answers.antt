@@ -1,6 +1,5 @@
 -- The tests, in order. Assumes nothing.
 use mathlib.Core.Path.{sym, ◌∙◌}
-use borrow.Author.Rules.{rules}
 use borrow.Author.Tests.{not-true, not-false}
 use Rattle.basics.proofs.Tests.{and_left}
 use Rattle.calls.proofs.Returns.{holds}

@@ -1,8 +1,7 @@
 -- The test of the limits, then the step of the two records; then the bytes. Assumes nothing.
-use mathlib.Core.Path.{◌≡◌, refl, sym, ◌∙◌}
+use mathlib.Core.Path.{◌≡◌, sym, ◌∙◌}
 use mathlib.Core.Bool.{true}
 use mathlib.Core.Option.{Option, none}
-use borrow.Author.Rules.{rules}
 use Rattle.basics.proofs.Tests.{and_right}
 use Rattle.records.specs.declared.Refusal.{Refusal}
 use Rattle.records.specs.Sizes.{sizes_within}

@@ -4,7 +4,6 @@ use mathlib.Core.List.{List}
 use Prim.Native.Nat.{ℕ, ◌-◌, ◌*◌}
 use native.Mathlib.Nat.{add-sub_cancel_left}
 use lib.ListN.{take, drop}
-use borrow.Author.Rules.{rules}
 use Rattle.blocks.specs.Blocks.{part, block, set_block, add_times}
 use Rattle.adding.proofs.adds.add_bytes.Goals as goal
 

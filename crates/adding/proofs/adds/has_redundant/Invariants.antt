@@ -1,10 +1,7 @@
 -- All nodes up to j are data nodes or in the set. Assumes nothing.
-use mathlib.Core.Path.{sym, ◌∙◌}
 use Prim.Native.Nat.{◌-◌}
-use borrow.Author.Rules.{rules}
-use borrow.Author.Tests.{not-true, not-false}
 use Rattle.code.specs.View.{node_set_of}
-use Rattle.adding.proofs.Completing.{Had, had-start, had-on, had-hit, had-end}
+use Rattle.adding.proofs.Completing.{Had}
 use Rattle.adding.proofs.adds.has_redundant.Given as goal
 
 abbrev pub invariant-loop-j : goal.invariant-loop-j

@@ -1,7 +1,6 @@
 -- Refused where the write is done; then as the node answers. Assumes nothing.
-use mathlib.Core.Path.{◌≡◌, refl, sym, ◌∙◌}
+use mathlib.Core.Path.{◌≡◌, sym, ◌∙◌}
 use mathlib.Core.Bool.{false}
-use borrow.Author.Rules.{rules}
 use Rattle.code.specs.Decode.{has}
 use Rattle.code.specs.View.{node_set_of}
 use Rattle.records.specs.declared.NodeAnswer.TheVariants.{Accepted, Refused}

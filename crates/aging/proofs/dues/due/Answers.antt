@@ -1,5 +1,4 @@
 -- The tests, in order; then the node tells. Assumes nothing.
-use borrow.Author.Rules.{rules}
 use Rattle.basics.proofs.Tests.{and_right}
 use Rattle.records.specs.Sizes.{sizes_within}
 use Rattle.records.proofs.Limits.{few-entries}

@@ -1,5 +1,4 @@
 -- The tests, in order. Assumes nothing.
-use borrow.Author.Rules.{rules}
 use Rattle.entries.proofs.Tests.{tests}
 use Rattle.aging.proofs.dues.is_within.Goals as goal
 

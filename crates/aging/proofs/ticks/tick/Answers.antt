@@ -1,6 +1,5 @@
 -- The test, then what becomes of the nodes. Assumes nothing.
 use mathlib.Core.Path.{sym, ◌∙◌}
-use borrow.Author.Rules.{rules}
 use borrow.Author.Tests.{not-true, not-false}
 use Rattle.basics.proofs.Tests.{and_right}
 use Rattle.records.specs.Sizes.{sizes_within}

@@ -1,7 +1,6 @@
 -- `blocks::doublings::add_bit` meets its contract: a bit times a byte is a byte. Assumes nothing.
 use Prim.Native.Nat.{◌<◌, ◌*◌, ◌%◌}
 use native.Mathlib.Omega.{arith}
-use borrow.Author.Rules.{rules}
 use Rattle.gf256.proofs.Xor.{bit-cases, low_bit}
 use Rattle.blocks.proofs.doublings.add_bit.Goals as goal
 

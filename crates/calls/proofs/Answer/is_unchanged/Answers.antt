@@ -1,7 +1,6 @@
 -- By cases of the answer. Assumes nothing.
 use mathlib.Core.Path.{ap}
 use mathlib.Core.Bool.{not}
-use borrow.Author.Rules.{rules}
 use Rattle.calls.proofs.Answer.is_unchanged.Goals as goal
 
 pub returns-in-Refused : goal.returns-in-Refused

@@ -1,5 +1,4 @@
 -- By cases of the call. Assumes nothing.
-use borrow.Author.Rules.{rules}
 use Rattle.calls.proofs.StepCall.target.Goals as goal
 
 pub returns-in-Swap : goal.returns-in-Swap

@@ -1,5 +1,4 @@
 -- By cases of the call. Assumes nothing.
-use borrow.Author.Rules.{rules}
 use Rattle.calls.proofs.asked.target_by.Goals as goal
 
 pub returns-in-Drop : goal.returns-in-Drop

@@ -1,6 +1,5 @@
 -- `calls::shown_part` meets its contract. Assumes nothing.
 use mathlib.Core.Path.{sym, ◌∙◌}
-use borrow.Author.Rules.{rules}
 use Rattle.records.specs.declared.Source.TheVariants.{Live, Spare}
 use Rattle.calls.proofs.Names.{names}
 use Rattle.calls.proofs.shown.shown_part.Goals as goal

@@ -6,7 +6,6 @@ use lib.Seq.{length-take-le}
 use Rattle.code.specs.Code as Code
 use Rattle.coding.proofs.Encoded.{data-held, encoded-rows, mixed-symbol}
 use Rattle.coding.proofs.Weighing.{data-length, data-nodes}
-use borrow.Author.Rules.{rules}
 use Rattle.coding.proofs.encoding.redundant.Goals as goal
 
 pub slice_bounds-mix-end : goal.slice_bounds-mix-end

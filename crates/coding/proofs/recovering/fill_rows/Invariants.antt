@@ -1,12 +1,8 @@
 -- `coding::recovering::fill_rows` meets its contract: after j turns the weights of the first j nodes are there. Assumes nothing.
-use mathlib.Core.Path.{◌≡◌, ap, ◌∙◌}
+use mathlib.Core.Path.{◌≡◌}
 use Prim.Native.Nat.{◌≤◌, ◌-◌}
-use native.Mathlib.Numerals.{add-one}
-use native.Mathlib.Omega.{arith}
 use lib.ListN.{length}
-use Rattle.blocks.specs.Blocks.{set_part}
-use Rattle.coding.proofs.Restored.{RowsOf, rows-turn, rows-length}
-use borrow.Author.Rules.{rules}
+use Rattle.coding.proofs.Restored.{RowsOf}
 use Rattle.coding.proofs.recovering.fill_rows.Given as goal
 
 abbrev pub invariant-loop-j : goal.invariant-loop-j

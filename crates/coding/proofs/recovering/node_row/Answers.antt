@@ -5,7 +5,6 @@ use Prim.Native.Nat.{suc, ◌-◌}
 use native.Mathlib.Omega.{arith}
 use lib.ListN.{get_or}
 use Rattle.coding.proofs.Restored.{unit-tail}
-use borrow.Author.Rules.{rules}
 use Rattle.coding.proofs.recovering.node_row.Goals as goal
 
 pub recover_row-requires : goal.recover_row-requires

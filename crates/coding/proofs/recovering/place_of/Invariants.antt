@@ -1,12 +1,7 @@
 -- `coding::recovering::place_of` meets its contract. Assumes nothing.
-use mathlib.Core.List.{List}
-use mathlib.Core.Logic.{◌≢◌, ◌⊎◌, inl, inr}
-use mathlib.Core.Path.{◌≡◌, sym, ap, ◌∙◌}
+use mathlib.Core.Logic.{◌≢◌}
 use Prim.Native.Nat.{ℕ, ◌≤◌, ◌<◌, ◌-◌}
-use native.Mathlib.Nat.{add-sub_cancel, eq-or-lt_of_le}
-use native.Mathlib.Omega.{arith}
 use lib.ListN.{length, get_or}
-use borrow.Author.Rules.{rules}
 use Rattle.coding.proofs.recovering.place_of.Given as goal
 
 abbrev pub invariant-loop-q : goal.invariant-loop-q

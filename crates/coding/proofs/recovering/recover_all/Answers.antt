@@ -1,12 +1,11 @@
 -- `coding::recovering::recover_all` meets its contract. Assumes nothing.
-use mathlib.Core.Path.{◌≡◌, sym, ap, ◌∙◌}
+use mathlib.Core.Path.{sym, ap, ◌∙◌}
 use Prim.Native.Nat.{◌*◌}
 use native.Mathlib.Omega.{arith}
-use lib.ListN.{length, replicate}
+use lib.ListN.{replicate}
 use lib.Seq.{length-take-le}
 use Rattle.blocks.proofs.Parts.{bytes_of}
 use Rattle.coding.proofs.Restored.{nodes-chosen, recovered-rows, restored-table, restored-none}
-use borrow.Author.Rules.{rules}
 use Rattle.coding.proofs.recovering.recover_all.Goals as goal
 
 pub returns-then-nodes-eq0 : goal.returns-then-nodes-eq0

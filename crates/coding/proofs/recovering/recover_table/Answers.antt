@@ -1,7 +1,6 @@
 -- `coding::recovering::recover_table` meets its contract. Assumes nothing.
-use mathlib.Core.Path.{sym, ◌∙◌}
+use mathlib.Core.Path.{sym}
 use native.Mathlib.Omega.{arith}
-use borrow.Author.Rules.{rules}
 use Rattle.code.specs.View.{node_set_of}
 use Rattle.coding.proofs.Lowest.{lowest-count, lowest-nodes, lowest-rising, lowest-held, lowest-restored}
 use Rattle.coding.proofs.recovering.recover_table.Goals as goal

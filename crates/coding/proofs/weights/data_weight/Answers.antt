@@ -2,7 +2,6 @@
 use mathlib.Core.Path.{sym, ◌∙◌}
 use native.Mathlib.Omega.{arith}
 use Rattle.coding.proofs.Encoded.{weight-out, weight-nonzero, weight-by-logarithm}
-use borrow.Author.Rules.{rules}
 use Rattle.coding.proofs.weights.data_weight.Goals as goal
 
 pub returns-then-k-i : goal.returns-then-k-i

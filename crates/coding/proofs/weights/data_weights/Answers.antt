@@ -1,9 +1,7 @@
 -- `coding::weights::data_weights` meets its contract. Assumes nothing.
 use mathlib.Core.Path.{refl}
-use Prim.Native.Nat.{◌≤◌, ◌+◌, ◌-◌, ◌*◌, ◌/◌, ◌%◌}
 use native.Mathlib.Omega.{arith}
-use Rattle.coding.specs.Weights.{data_weight}
-use Rattle.blocks.proofs.Entries.{Begun, begun-none, begun-turn}
+use Rattle.blocks.proofs.Entries.{begun-none, begun-turn}
 use borrow.Author.Rules.{rules}
 use Rattle.coding.proofs.weights.data_weights.Goals as goal
 

@@ -1,10 +1,7 @@
 -- `coding::weights::data_weights` meets its contract. Assumes nothing.
-use mathlib.Core.Path.{refl}
 use Prim.Native.Nat.{◌≤◌, ◌+◌, ◌-◌, ◌*◌, ◌/◌, ◌%◌}
-use native.Mathlib.Omega.{arith}
 use Rattle.coding.specs.Weights.{data_weight}
-use Rattle.blocks.proofs.Entries.{Begun, begun-none, begun-turn}
-use borrow.Author.Rules.{rules}
+use Rattle.blocks.proofs.Entries.{Begun}
 use Rattle.coding.proofs.weights.data_weights.Given as goal
 
 abbrev pub invariant-loop-i : goal.invariant-loop-i

@@ -7,7 +7,6 @@ use Rattle.gf256.specs.Field.{product}
 use Rattle.gf256.proofs.Laws.{power-add}
 use Rattle.kernel.specs.Combine.{nth}
 use Rattle.coding.proofs.Weighing.{two-spans}
-use borrow.Author.Rules.{rules}
 use Rattle.coding.proofs.weights.others.Goals as goal
 
 pub span-requires : goal.span-requires

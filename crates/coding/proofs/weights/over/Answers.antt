@@ -1,7 +1,6 @@
 -- `coding::weights::over` meets its contract. Assumes nothing.
 use native.Mathlib.Omega.{arith}
 use Rattle.coding.proofs.Weighing.{power-over}
-use borrow.Author.Rules.{rules}
 use Rattle.coding.proofs.weights.over.Goals as goal
 
 pub returns : goal.returns

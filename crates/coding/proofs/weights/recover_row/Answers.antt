@@ -1,11 +1,11 @@
 -- `coding::weights::recover_row` meets its contract. Assumes nothing.
 use mathlib.Core.Path.{◌≡◌, refl, ◌∙◌}
-use Prim.Native.Nat.{ℕ, suc, ◌≤◌, ◌<◌, ◌-◌, ◌+◌}
+use Prim.Native.Nat.{ℕ, ◌<◌, ◌-◌, ◌+◌}
 use native.Mathlib.Omega.{arith}
 use lib.ListN.{length, get_or}
 use Rattle.kernel.specs.Combine.{nth}
 use Rattle.code.specs.Decode as Decode
-use Rattle.blocks.proofs.Entries.{Entries, entries_none, entries-turn, Untouched, untouched-turn, zeros-at}
+use Rattle.blocks.proofs.Entries.{entries_none, entries-turn, untouched-turn, zeros-at}
 use Rattle.coding.proofs.Weighing.{points-apart, one_span, recover-turn}
 use borrow.Author.Rules.{rules}
 use Rattle.coding.proofs.weights.recover_row.Goals as goal

@@ -1,7 +1,6 @@
 -- `coding::weights::scale` meets its contract: the data nodes are 1 to k. Assumes nothing.
 use mathlib.Core.Path.{sym, ◌∙◌}
 use native.Mathlib.Omega.{arith}
-use borrow.Author.Rules.{rules}
 use Rattle.coding.proofs.Weighing.{data-length, data-nodes, data-apart, data-past, scale-data, scale-past}
 use Rattle.coding.proofs.weights.scale.Goals as goal
 

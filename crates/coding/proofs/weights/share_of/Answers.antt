@@ -3,7 +3,6 @@ use mathlib.Core.Path.{◌∙◌}
 use Prim.Native.Nat.{◌-◌}
 use native.Mathlib.Omega.{arith}
 use Rattle.coding.proofs.Weighing.{rising-apart}
-use borrow.Author.Rules.{rules}
 use Rattle.coding.proofs.weights.share_of.Goals as goal
 
 pub overflow_cast-j : goal.overflow_cast-j

@@ -1,9 +1,7 @@
 -- `coding::weights::shares` meets its contract. Assumes nothing.
 use mathlib.Core.Path.{refl}
-use Prim.Native.Nat.{◌≤◌, ◌-◌}
 use native.Mathlib.Omega.{arith}
-use lib.ListN.{length}
-use Rattle.coding.proofs.Weighing.{Shared, shared-turn}
+use Rattle.coding.proofs.Weighing.{shared-turn}
 use borrow.Author.Rules.{rules}
 use Rattle.coding.proofs.weights.shares.Goals as goal
 

@@ -1,10 +1,7 @@
 -- `coding::weights::shares` meets its contract. Assumes nothing.
-use mathlib.Core.Path.{refl}
 use Prim.Native.Nat.{◌≤◌, ◌-◌}
-use native.Mathlib.Omega.{arith}
 use lib.ListN.{length}
-use Rattle.coding.proofs.Weighing.{Shared, shared-turn}
-use borrow.Author.Rules.{rules}
+use Rattle.coding.proofs.Weighing.{Shared}
 use Rattle.coding.proofs.weights.shares.Given as goal
 
 abbrev pub invariant-loop-q : goal.invariant-loop-q

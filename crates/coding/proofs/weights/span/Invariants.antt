@@ -1,13 +1,9 @@
 -- `coding::weights::span` meets its contract: at place l r is the logarithm of the product of the nodes after the first a up to l. Assumes nothing.
-use mathlib.Core.Path.{◌≡◌, refl, ap}
-use Prim.Native.Nat.{ℕ, ◌≤◌, ◌<◌, ◌-◌, ◌*◌}
-use native.Mathlib.Omega.{arith}
-use lib.ListN.{length, get_or}
+use mathlib.Core.Path.{◌≡◌}
+use Prim.Native.Nat.{◌≤◌, ◌-◌, ◌*◌}
 use Rattle.gf256.specs.Field.{power}
-use borrow.Author.Rules.{rules}
 use Rattle.kernel.specs.Combine.{nth}
 use Rattle.coding.specs.Weights.{factors}
-use Rattle.coding.proofs.Weighing.{points-apart, factors-turn}
 use Rattle.coding.proofs.weights.span.Given as goal
 
 abbrev pub invariant-loop-l : goal.invariant-loop-l

@@ -1,7 +1,6 @@
 -- `coding::weights::unit` meets its contract. Assumes nothing.
 use native.Mathlib.Omega.{arith}
 use Rattle.coding.proofs.Restored.{unit-is}
-use borrow.Author.Rules.{rules}
 use Rattle.coding.proofs.weights.unit.Goals as goal
 
 pub returns : goal.returns

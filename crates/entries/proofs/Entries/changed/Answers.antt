@@ -1,10 +1,6 @@
 -- out is what the change leaves of the first i entries. Assumes nothing.
-use Prim.Native.Nat.{◌-◌}
 use native.Mathlib.Omega.{arith}
-use lib.ListN.{get_or}
-use borrow.Author.Rules.{rules}
-use Rattle.entries.specs.View.{entry_of, blank_entry, ids_of}
-use Rattle.entries.proofs.Lists.{Changed, change-start, change-on, change-end}
+use Rattle.entries.proofs.Lists.{change-start, change-on, change-end}
 use Rattle.entries.proofs.Entries.changed.Goals as goal
 
 pub loop-i-init : goal.loop-i-init

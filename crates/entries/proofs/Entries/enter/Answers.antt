@@ -1,5 +1,4 @@
 -- One entry more. Assumes nothing.
-use borrow.Author.Rules.{rules}
 use Rattle.entries.proofs.Entries.enter.Goals as goal
 
 pub returns : goal.returns

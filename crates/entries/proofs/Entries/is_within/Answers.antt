@@ -1,6 +1,5 @@
 -- By the test of the count, which is the list's length. Assumes nothing.
 use mathlib.Core.Bool.{not-not}
-use borrow.Author.Rules.{rules}
 use borrow.Author.Tests.{le-leb, lt-leb}
 use Rattle.entries.specs.Entries.{entry_limit}
 use Rattle.entries.proofs.Lists.{entries-count}

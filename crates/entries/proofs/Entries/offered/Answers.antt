@@ -1,7 +1,6 @@
 -- By cases of the change. Assumes nothing.
 use mathlib.Core.Path.{sym}
 use mathlib.Core.List.{append-nil}
-use borrow.Author.Rules.{rules}
 use Rattle.entries.proofs.Entries.offered.Goals as goal
 
 pub returns-in-Mark : goal.returns-in-Mark

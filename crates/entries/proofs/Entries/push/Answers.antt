@@ -1,7 +1,7 @@
 -- A store after the last. Assumes nothing.
 use borrow.Author.Rules.{rules}
 use Rattle.entries.specs.View.{entry_of}
-use Rattle.entries.proofs.Lists.{below-array, list_of-push}
+use Rattle.entries.proofs.Lists.{list_of-push}
 use Rattle.entries.proofs.Entries.push.Goals as goal
 
 pub returns : goal.returns

@@ -1,13 +1,6 @@
 -- A search: none of the first i entries is outside. Assumes nothing.
-use mathlib.Core.Bool.{not}
-use mathlib.Core.List.{List}
-use Prim.Native.Nat.{◌-◌}
 use native.Mathlib.Omega.{arith}
-use lib.ListN.{get_or}
-use borrow.Author.Rules.{rules}
-use Rattle.entries.specs.Entries.{Entry, entries_within}
-use Rattle.entries.specs.View.{entry_of, blank_entry}
-use Rattle.entries.proofs.Lists.{Searched, outside-search, search-start, search-on, search-hit, search-end}
+use Rattle.entries.proofs.Lists.{outside-search, search-start, search-on, search-hit, search-end}
 use Rattle.entries.proofs.Entries.some_outside.Goals as goal
 
 pub loop-i-init : goal.loop-i-init

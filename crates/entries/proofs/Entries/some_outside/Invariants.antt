@@ -2,12 +2,10 @@
 use mathlib.Core.Bool.{not}
 use mathlib.Core.List.{List}
 use Prim.Native.Nat.{◌-◌}
-use native.Mathlib.Omega.{arith}
 use lib.ListN.{get_or}
-use borrow.Author.Rules.{rules}
 use Rattle.entries.specs.Entries.{Entry, entries_within}
 use Rattle.entries.specs.View.{entry_of, blank_entry}
-use Rattle.entries.proofs.Lists.{Searched, outside-search, search-start, search-on, search-hit, search-end}
+use Rattle.entries.proofs.Lists.{Searched}
 use Rattle.entries.proofs.Entries.some_outside.Given as goal
 
 abbrev pub invariant-loop-i : goal.invariant-loop-i

@@ -1,11 +1,6 @@
 -- The first i entries are one tick later. Assumes nothing.
-use mathlib.Core.Path.{◌≡◌}
 use Prim.Native.Nat.{◌-◌}
-use native.Mathlib.Omega.{arith}
-use lib.ListN.{length}
-use borrow.Author.Rules.{rules}
-use Rattle.entries.specs.Entries.{entry_limit}
-use Rattle.entries.proofs.Lists.{length-array, Aged, age-start, age-on, age-end}
+use Rattle.entries.proofs.Lists.{Aged}
 use Rattle.entries.proofs.Entries.tick.Given as goal
 
 abbrev pub invariant-loop-i : goal.invariant-loop-i

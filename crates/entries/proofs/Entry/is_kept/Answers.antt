@@ -1,5 +1,4 @@
 -- The two tests, in order. Assumes nothing.
-use borrow.Author.Rules.{rules}
 use Rattle.entries.proofs.Entry.is_kept.Goals as goal
 
 pub returns-then-is_recent : goal.returns-then-is_recent

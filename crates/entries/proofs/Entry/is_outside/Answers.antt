@@ -3,7 +3,6 @@ use mathlib.Core.Path.{ap, ◌∙◌}
 use mathlib.Core.Bool.{not, and-true}
 use native.Mathlib.Omega.{arith}
 use borrow.Author.Tests.{le-leb}
-use borrow.Author.Rules.{rules}
 use Rattle.entries.specs.Entries.{age_limit, id_within}
 use Rattle.entries.specs.View.{entry_of}
 use Rattle.entries.proofs.Entry.is_outside.Goals as goal

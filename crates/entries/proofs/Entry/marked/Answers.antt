@@ -1,5 +1,4 @@
 -- By the test. Assumes nothing.
-use borrow.Author.Rules.{rules}
 use Rattle.entries.proofs.Entry.marked.Goals as goal
 
 pub returns-then-has : goal.returns-then-has

@@ -1,6 +1,5 @@
 -- By cases of the test. Assumes nothing.
 use mathlib.Core.Path.{ap, ◌∙◌}
-use borrow.Author.Rules.{rules}
 use Rattle.entries.specs.Entries.{same_id}
 use Rattle.entries.proofs.Tests.{tests}
 use Rattle.entries.proofs.Entry.passes.Goals as goal

@@ -1,11 +1,6 @@
 -- A search: none of the first i ids passes the test. Assumes nothing.
-use Prim.Native.Nat.{◌-◌}
 use native.Mathlib.Omega.{arith}
-use lib.ListN.{get_or}
-use borrow.Author.Rules.{rules}
-use Rattle.entries.specs.Lists.{some_id_passes}
-use Rattle.entries.specs.View.{blank_id}
-use Rattle.entries.proofs.Lists.{Searched, ids-search, search-start, search-on, search-hit, search-end}
+use Rattle.entries.proofs.Lists.{ids-search, search-start, search-on, search-hit, search-end}
 use Rattle.entries.proofs.Ids.any.Goals as goal
 
 pub loop-i-init : goal.loop-i-init

@@ -1,11 +1,9 @@
 -- A search: none of the first i ids passes the test. Assumes nothing.
 use Prim.Native.Nat.{◌-◌}
-use native.Mathlib.Omega.{arith}
 use lib.ListN.{get_or}
-use borrow.Author.Rules.{rules}
 use Rattle.entries.specs.Lists.{some_id_passes}
 use Rattle.entries.specs.View.{blank_id}
-use Rattle.entries.proofs.Lists.{Searched, ids-search, search-start, search-on, search-hit, search-end}
+use Rattle.entries.proofs.Lists.{Searched}
 use Rattle.entries.proofs.Ids.any.Given as goal
 
 abbrev pub invariant-loop-i : goal.invariant-loop-i

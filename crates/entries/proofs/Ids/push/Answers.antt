@@ -1,6 +1,6 @@
 -- A store after the last. Assumes nothing.
 use borrow.Author.Rules.{rules}
-use Rattle.entries.proofs.Lists.{below-array, list_of-push}
+use Rattle.entries.proofs.Lists.{list_of-push}
 use Rattle.entries.proofs.Ids.push.Goals as goal
 
 pub returns : goal.returns

@@ -1,5 +1,4 @@
 -- By cases of the id. Assumes nothing.
-use borrow.Author.Rules.{rules}
 use Rattle.entries.proofs.Previous.is_within.Goals as goal
 
 pub returns-in-Nothing : goal.returns-in-Nothing

@@ -1,6 +1,5 @@
 -- The tests, in order; then the bytes are the block and the record is a failed node's. Assumes nothing.
 use mathlib.Core.Path.{refl}
-use borrow.Author.Rules.{rules}
 use borrow.Author.Tests.{eqb-true}
 use Rattle.basics.proofs.Tests.{and_left, and_right}
 use Rattle.records.specs.Sizes.{sizes_within}

@@ -1,6 +1,5 @@
 -- The tests, in order. Assumes nothing.
 use mathlib.Core.Path.{sym, ◌∙◌}
-use borrow.Author.Rules.{rules}
 use Rattle.entries.proofs.Tests.{tests}
 use Rattle.failure.proofs.fails.is_within.Goals as goal
 

@@ -1,6 +1,5 @@
 -- By the entrance's answer. Assumes nothing.
 use mathlib.Core.Path.{refl}
-use borrow.Author.Rules.{rules}
 use Rattle.machine.specs.Failure.{stop}
 use Rattle.rebuild.proofs.Stepping.{steps-left, steps-turned, steps_on}
 use Rattle.failure.proofs.stops.stop.Goals as goal

@@ -4,9 +4,8 @@ use Prim.Native.Nat.{◌+◌, ◌-◌, ◌*◌, ◌%◌, ◌^◌, ◌<◌}
 use native.Mathlib.Nat.{mod-le}
 use native.Mathlib.Omega.{arith}
 use lib.Pow.{pow_pos}
-use borrow.Author.Rules.{rules}
 use Rattle.groups.specs.Groups.{total, earlier_nodes}
-use Rattle.groups.specs.View.{group_sizes, sizes_from}
+use Rattle.groups.specs.View.{sizes_from}
 use Rattle.groups.proofs.Ends.{earlier-of, bit-of, seen, few-byte}
 use Rattle.groups.proofs.Groups.earlier.Goals as goal
 

@@ -1,9 +1,7 @@
 -- The highest bit is that of the last redundant node. Assumes nothing.
-use mathlib.Core.Path.{◌≡◌, sym, ap, ◌∙◌}
+use mathlib.Core.Path.{◌≡◌, ap, ◌∙◌}
 use Prim.Native.Nat.{◌+◌, ◌-◌}
-use native.Mathlib.Decide.{dec_lt}
 use native.Mathlib.Omega.{arith}
-use borrow.Author.Rules.{rules}
 use Rattle.groups.specs.Groups.{groups_fit}
 use Rattle.groups.specs.View.{group_sizes}
 use Rattle.groups.proofs.Ends.{fit_all}

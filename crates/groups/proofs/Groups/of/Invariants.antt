@@ -1,20 +1,8 @@
 -- One size at a time. Assumes nothing.
-use mathlib.Core.Path.{◌≡◌, sym, ap, ◌∙◌}
-use mathlib.Core.Bool.{cond, ◌&&◌}
-use mathlib.Core.List.{[], ◌∷◌, ◌++◌}
-use Prim.Native.Nat.{◌≤◌, ◌-◌, ◌+◌}
-use native.Mathlib.Nat.{add-zero}
-use native.Mathlib.Numerals.{add-one}
-use native.Mathlib.Omega.{arith}
-use lib.Dec.{leb}
-use lib.ListN.{length, get_or, take}
-use lib.Seq.{take_all, take-suc}
-use borrow.Author.Rules.{rules}
-use Rattle.basics.specs.Lists.{every_of}
-use Rattle.groups.specs.Groups.{total}
-use Rattle.groups.specs.View.{group_sizes, kept, impossible}
-use Rattle.groups.proofs.Ends.{none_of}
-use Rattle.groups.proofs.Kept.{kept-snoc}
+use mathlib.Core.Path.{◌≡◌}
+use Prim.Native.Nat.{◌≤◌, ◌-◌}
+use lib.ListN.{length, take}
+use Rattle.groups.specs.View.{group_sizes, kept}
 use Rattle.groups.proofs.Groups.of.Given as goal
 
 abbrev pub invariant-loop-i : goal.invariant-loop-i

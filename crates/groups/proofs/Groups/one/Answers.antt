@@ -3,9 +3,8 @@ use mathlib.Core.Path.{◌≡◌, sym, ap, ◌∙◌}
 use mathlib.Core.List.{[], ◌∷◌}
 use Prim.Native.Nat.{◌+◌, ◌-◌}
 use native.Mathlib.Omega.{arith}
-use borrow.Author.Rules.{rules}
 use borrow.Author.Tests.{le-leb, lt-leb}
-use Rattle.groups.specs.View.{ends_of, groups_of}
+use Rattle.groups.specs.View.{ends_of}
 use Rattle.groups.proofs.Ends.{one_of}
 use Rattle.groups.proofs.Groups.one.Goals as goal
 

@@ -1,34 +1,38 @@
 -- One bit at a time: what is left of the groups answers for the whole. Assumes nothing.
 use mathlib.Core.Path.{◌≡◌, refl, sym, ap, ◌∙◌}
-use mathlib.Core.Logic.{⊎_elim}
-use Prim.Native.Nat.{◌≤◌, ◌+◌}
+use Prim.Native.Nat.{ℕ, ◌≤◌}
 use native.Mathlib.Omega.{arith}
 use lib.ListN.{get_or}
 use borrow.Author.Rules.{rules}
+use Rattle.groups.specs.Groups.{total}
 use Rattle.groups.specs.View.{group_sizes, sizes_from}
+use Rattle.groups.specs.declared.Groups.{Groups}
 use Rattle.groups.proofs.Ends.{size-here, size-next, size-on, size_none, seen, few-byte}
 use Rattle.groups.proofs.Groups.size.Goals as goal
+use Rattle.groups.proofs.Groups.size.Goals.{then-ends-eq1+else-left-eq0, else-ends-eq1}
 
 -- the groups are a byte
-is_seen : (c : tie.Start invariant-loop decreases-loop) → let a = c.args in get_or (sizes_from 8 a.self.ends 0) a.i 0 ≡ get_or (group_sizes a.self) a.i 0
-is_seen c = let a = c.args in ap (λ sizes. get_or sizes a.i 0) (sym (seen a.self (few-byte a.self (omega (arith, c.requires)))))
+is_seen : (g : Groups) (i : ℕ) → total (group_sizes g) ≤ 6 → get_or (sizes_from 8 g.ends 0) i 0 ≡ get_or (group_sizes g) i 0
+is_seen g i few = ap (λ sizes. get_or sizes i 0) (sym (seen g (few-byte g (omega (arith, few)))))
 
 pub loop-w-init : goal.loop-w-init
 loop-w-init c = (refl, search rules)
 
 pub returns-then-left-eq0 : goal.returns-then-left-eq0
-returns-then-left-eq0 c = let l = c.loop-w in
-    sym (size-here l.w l.ends l.run l.left (omega arith) c.if-ends-eq1.true c.if-left-eq0.true) ∙ (l.invariant.0 ∙ is_seen c)
+returns-then-left-eq0 c =
+    let l = c.loop-w in
+    sym (size-here l.w l.ends l.run l.left (omega arith) c.if-ends-eq1.true c.if-left-eq0.true) ∙ (l.invariant.0 ∙ is_seen c.args.self c.args.i c.requires)
 
 pub loop-w-preserved : goal.loop-w-preserved
-loop-w-preserved c = let l = c.loop-w in
-    ⊎_elim
-    (λ w. (
-      rw (w.2, w.3) (sym (size-next l.w l.ends l.run l.left (omega arith) w.0.taken (omega arith)) ∙ l.invariant.0),
-      omega arith,
-    ))
-    (λ w. (rw (w.1, w.2) (sym (size-on l.w l.ends l.run l.left (omega arith) w.0.left) ∙ l.invariant.0), omega arith))
-    c.if-ends-eq1.branch
+loop-w-preserved c =
+    let l = c.loop-w in
+    elim c.if-ends-eq1.branch [
+      | then-ends-eq1+else-left-eq0 w ↦ (
+        rw (w.left-is, w.run-is) (sym (size-next l.w l.ends l.run l.left (omega arith) w.if-ends-eq1.true (omega arith)) ∙ l.invariant.0),
+        omega arith,
+      )
+      | else-ends-eq1 w ↦ (rw (w.left-is, w.run-is) (sym (size-on l.w l.ends l.run l.left (omega arith) w.if-ends-eq1.false) ∙ l.invariant.0), omega arith)
+    ]
 
 pub returns : goal.returns
-returns c = let l = c.loop-w in sym (size_none l.w l.ends l.run l.left (omega arith)) ∙ (l.invariant.0 ∙ is_seen c)
+returns c = let l = c.loop-w in sym (size_none l.w l.ends l.run l.left (omega arith)) ∙ (l.invariant.0 ∙ is_seen c.args.self c.args.i c.requires)

@@ -1,12 +1,8 @@
 -- One bit at a time: what is left of the groups answers for the whole. Assumes nothing.
-use mathlib.Core.Path.{◌≡◌, refl, sym, ap, ◌∙◌}
-use mathlib.Core.Logic.{⊎_elim}
+use mathlib.Core.Path.{◌≡◌}
 use Prim.Native.Nat.{◌≤◌, ◌+◌}
-use native.Mathlib.Omega.{arith}
 use lib.ListN.{get_or}
-use borrow.Author.Rules.{rules}
-use Rattle.groups.specs.View.{group_sizes, sizes_from}
-use Rattle.groups.proofs.Ends.{size-here, size-next, size-on, size_none, seen, few-byte}
+use Rattle.groups.specs.View.{sizes_from}
 use Rattle.groups.proofs.Groups.size.Given as goal
 
 abbrev pub invariant-loop-w : goal.invariant-loop-w

@@ -1,15 +1,11 @@
 -- Sizes that do not fit are impossible ones; else the new group ends where the nodes so far and its own end. Assumes nothing.
-use mathlib.Core.Path.{◌≡◌, refl, sym, ap, ◌∙◌}
-use mathlib.Core.Bool.{Bool, true, false, cond, ◌&&◌}
-use mathlib.Core.List.{List, [], ◌∷◌, ◌++◌}
-use Prim.Native.Nat.{ℕ, ◌+◌, ◌-◌, ◌*◌, ◌%◌, ◌^◌, ◌≤◌, ◌<◌}
+use mathlib.Core.Path.{◌≡◌, ap, ◌∙◌}
+use mathlib.Core.List.{[], ◌∷◌, ◌++◌}
+use Prim.Native.Nat.{◌+◌, ◌-◌}
 use native.Mathlib.Omega.{arith}
-use lib.Bits.{bit_or}
-use lib.Dec.{leb}
-use borrow.Author.Rules.{rules}
 use borrow.Author.Tests.{le-leb, lt-leb}
 use Rattle.groups.specs.Groups.{total}
-use Rattle.groups.specs.View.{group_sizes, sizes_from, impossible}
+use Rattle.groups.specs.View.{group_sizes, sizes_from}
 use Rattle.groups.proofs.Ends.{with-of, impossible-of, seen, few-byte}
 use Rattle.groups.proofs.Groups.with.Goals as goal
 

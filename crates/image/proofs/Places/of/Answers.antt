@@ -2,7 +2,6 @@
 use mathlib.Core.Path.{◌≡◌}
 use Prim.Native.Nat.{◌+◌}
 use native.Mathlib.Omega.{arith}
-use borrow.Author.Rules.{rules}
 use Rattle.image.specs.Image.{image_length}
 use Rattle.image.proofs.Limits.{small}
 use Rattle.image.proofs.Places.of.Goals as goal

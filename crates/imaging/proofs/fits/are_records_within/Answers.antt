@@ -1,5 +1,4 @@
 -- The tests, in order. Assumes nothing.
-use borrow.Author.Rules.{rules}
 use Rattle.records.specs.Client.{client_within}
 use Rattle.records.proofs.Limits.{nodes-few}
 use Rattle.step.specs.View.{clients_of}

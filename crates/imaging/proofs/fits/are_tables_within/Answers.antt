@@ -1,7 +1,5 @@
 -- The tests, in order. Assumes nothing.
 use mathlib.Core.Bool.{and_assoc}
-use borrow.Author.Rules.{rules}
-use Rattle.entries.proofs.Tests.{tests}
 use Rattle.imaging.proofs.fits.are_tables_within.Goals as goal
 
 pub returns-then-are_tables : goal.returns-then-are_tables

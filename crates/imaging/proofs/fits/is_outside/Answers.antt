@@ -1,7 +1,6 @@
 -- `imaging::fits::is_outside` meets its contract. Assumes nothing.
 use mathlib.Core.Bool.{not}
 use mathlib.Core.Path.{ap}
-use borrow.Author.Rules.{rules}
 use Rattle.imaging.proofs.fits.is_outside.Goals as goal
 
 pub returns : goal.returns

@@ -1,6 +1,5 @@
 -- The tests, in order. Assumes nothing.
 use mathlib.Core.Path.{sym, ◌∙◌}
-use borrow.Author.Rules.{rules}
 use Rattle.imaging.proofs.Writable.{writable-tests}
 use Rattle.imaging.proofs.fits.is_writable.Goals as goal
 

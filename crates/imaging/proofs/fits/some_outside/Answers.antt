@@ -1,15 +1,9 @@
 -- A search: none of the first i clients is outside the limits. Assumes nothing.
 use mathlib.Core.Bool.{not}
-use Prim.Native.Nat.{◌-◌}
 use native.Mathlib.Omega.{arith}
-use lib.ListN.{get_or}
-use borrow.Author.Rules.{rules}
-use Rattle.basics.specs.Lists.{some_of}
-use Rattle.entries.proofs.Lists.{Searched, search-start, search-on, search-hit, search-end}
+use Rattle.entries.proofs.Lists.{search-start, search-on, search-hit, search-end}
 use Rattle.limits.proofs.Limits.{clients-few}
 use Rattle.records.specs.Client.{Client, client_within}
-use Rattle.records.specs.View.{client_of}
-use Rattle.step.specs.View.{blank_client}
 use Rattle.stripe.proofs.NodeLists.{some-search}
 use Rattle.imaging.proofs.fits.some_outside.Goals as goal
 

@@ -1,5 +1,4 @@
 -- The bytes of two words. Assumes nothing.
-use borrow.Author.Rules.{rules}
 use Rattle.imaging.proofs.head.pair_bytes.Goals as goal
 
 pub returns : goal.returns

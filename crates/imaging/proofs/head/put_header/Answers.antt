@@ -3,7 +3,6 @@ use mathlib.Core.Path.{◌≡◌, refl}
 use Prim.Native.Nat.{◌+◌}
 use native.Mathlib.Omega.{arith}
 use lib.ListN.{length, get_or}
-use borrow.Author.Rules.{rules}
 use Rattle.octets.specs.Octets.{word_bytes, joined}
 use Rattle.octets.proofs.Filling.{fill, filled_none, filled_put}
 use Rattle.octets.proofs.Pieces.{length-joined}

@@ -1,10 +1,9 @@
 -- The first i pairs stand in the buffer. Assumes nothing.
 use mathlib.Core.Path.{refl}
-use Prim.Native.Nat.{◌+◌, ◌-◌}
+use Prim.Native.Nat.{◌+◌}
 use lib.ListN.{get_or}
-use borrow.Author.Rules.{rules}
 use Rattle.imaging.specs.Imaging.{pair_bytes}
-use Rattle.imaging.proofs.Items.{Items, items-none, items_more, items-room, items-all}
+use Rattle.imaging.proofs.Items.{items-none, items_more, items-room, items-all}
 use Rattle.imaging.proofs.head.put_pairs.Goals as goal
 
 pub loop-i-init : goal.loop-i-init

@@ -2,9 +2,8 @@
 use mathlib.Core.Path.{refl}
 use Prim.Native.Nat.{◌+◌, ◌-◌}
 use lib.ListN.{get_or}
-use borrow.Author.Rules.{rules}
 use Rattle.imaging.specs.Imaging.{pair_bytes}
-use Rattle.imaging.proofs.Items.{Items, items-none, items_more, items-room, items-all}
+use Rattle.imaging.proofs.Items.{Items}
 use Rattle.imaging.proofs.head.put_pairs.Given as goal
 
 abbrev pub invariant-loop-i : goal.invariant-loop-i

@@ -1,5 +1,4 @@
 -- The bytes of the sizes. Assumes nothing.
-use borrow.Author.Rules.{rules}
 use Rattle.imaging.proofs.head.sizes_bytes.Goals as goal
 
 pub returns : goal.returns

@@ -1,15 +1,11 @@
 -- The first i stand in the buffer. Assumes nothing.
 use Prim.Native.Nat.{◌-◌}
 use lib.ListN.{get_or}
-use borrow.Author.Rules.{rules}
-use Rattle.octets.proofs.Pieces.{joined-list}
-use Rattle.image.specs.Image.{clients_bytes}
 use Rattle.image.specs.Records.{client_bytes}
 use Rattle.image.proofs.Clients.{length-client_bytes}
-use Rattle.records.specs.Client.{fresh_client}
 use Rattle.records.specs.View.{client_of}
 use Rattle.step.specs.View.{blank_client}
-use Rattle.imaging.proofs.Items.{Items, items-none, items_more, items-room, items-all}
+use Rattle.imaging.proofs.Items.{Items}
 use Rattle.imaging.proofs.sections.put_clients.Given as goal
 
 abbrev pub invariant-loop-i : goal.invariant-loop-i

@@ -1,14 +1,11 @@
 -- The first i stand in the buffer. Assumes nothing.
-use Prim.Native.Nat.{◌-◌}
-use borrow.Author.Rules.{rules}
 use Rattle.octets.proofs.Pieces.{joined-list}
 use Rattle.image.specs.Image.{nodes_bytes}
 use Rattle.image.specs.Records.{node_bytes}
-use Rattle.image.proofs.Nodes.{length-node_bytes}
 use Rattle.records.specs.Node.{failed_node}
 use Rattle.records.specs.View.{node_of}
 use Rattle.stripe.specs.View.{record_at}
-use Rattle.imaging.proofs.Items.{Items, items-none, items_more, items-room, items-all}
+use Rattle.imaging.proofs.Items.{items-none, items_more, items-room, items-all}
 use Rattle.imaging.proofs.sections.put_nodes.Goals as goal
 
 pub loop-i-init : goal.loop-i-init

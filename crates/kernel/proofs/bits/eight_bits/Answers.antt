@@ -1,6 +1,5 @@
 -- `kernel::bits::eight_bits` meets its contract. Assumes nothing.
 use Rattle.kernel.specs.Working as Working
-use borrow.Author.Rules.{rules}
 use Rattle.kernel.proofs.bits.eight_bits.Goals as goal
 
 pub returns : goal.returns

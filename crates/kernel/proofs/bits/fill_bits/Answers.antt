@@ -1,13 +1,10 @@
 -- `kernel::bits::fill_bits` meets its contract: after c turns the first c sixteens are there. Assumes nothing.
 use mathlib.Core.Path.{refl}
-use Prim.Native.Nat.{◌≤◌, ◌-◌, ◌*◌, ◌/◌}
+use Prim.Native.Nat.{◌*◌}
 use native.Mathlib.Omega.{arith}
-use lib.ListN.{length}
 use Rattle.blocks.specs.Blocks.{set_part}
 use Rattle.blocks.proofs.Parts.{lent_length}
-use Rattle.kernel.specs.Working.{Sixteens}
 use Rattle.kernel.proofs.Tiles.{sixteens-turn}
-use borrow.Author.Rules.{rules}
 use Rattle.kernel.proofs.bits.fill_bits.Goals as goal
 
 pub loop-c-init : goal.loop-c-init

@@ -1,6 +1,5 @@
 -- `kernel::bits::fill_whole` meets its contract: the plain loop has weights 0 and 1. Assumes nothing.
 use native.Mathlib.Omega.{arith}
-use borrow.Author.Rules.{rules}
 use Rattle.kernel.proofs.bits.fill_whole.Goals as goal
 
 pub fill_plain-requires : goal.fill_plain-requires

@@ -1,9 +1,7 @@
 -- `kernel::bits::sixteen` meets its contract: after l turns the first l bytes are there. Assumes nothing.
 use mathlib.Core.Path.{refl}
-use Prim.Native.Nat.{◌≤◌, ◌-◌, ◌+◌}
 use native.Mathlib.Omega.{arith}
-use Rattle.kernel.specs.Working.{highest}
-use Rattle.blocks.proofs.Entries.{Begun, begun-none, begun-turn}
+use Rattle.blocks.proofs.Entries.{begun-none, begun-turn}
 use borrow.Author.Rules.{rules}
 use Rattle.kernel.proofs.bits.sixteen.Goals as goal
 

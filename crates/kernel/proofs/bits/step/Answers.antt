@@ -1,6 +1,5 @@
 -- `kernel::bits::step` meets its contract. Assumes nothing.
 use Rattle.kernel.specs.Working as Working
-use borrow.Author.Rules.{rules}
 use Rattle.kernel.proofs.bits.step.Goals as goal
 
 pub returns : goal.returns

@@ -1,6 +1,5 @@
 -- `kernel::plan::pack` meets its contract. Assumes nothing.
 use Rattle.kernel.specs.Working as Working
-use borrow.Author.Rules.{rules}
 use Rattle.kernel.proofs.plan.pack.Goals as goal
 
 pub returns : goal.returns

@@ -1,10 +1,7 @@
 -- `kernel::plan::pack_all` meets its contract: after i turns the first i are there. Assumes nothing.
 use mathlib.Core.Path.{refl}
-use Prim.Native.Nat.{◌≤◌, ◌-◌, ◌+◌, ◌*◌}
 use native.Mathlib.Omega.{arith}
-use lib.ListN.{get_or}
-use Rattle.kernel.specs.Working.{packed}
-use Rattle.blocks.proofs.Entries.{Begun, begun-none, begun-turn}
+use Rattle.blocks.proofs.Entries.{begun-none, begun-turn}
 use borrow.Author.Rules.{rules}
 use Rattle.kernel.proofs.plan.pack_all.Goals as goal
 

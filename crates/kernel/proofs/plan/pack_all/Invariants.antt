@@ -1,11 +1,8 @@
 -- `kernel::plan::pack_all` meets its contract: after i turns the first i are there. Assumes nothing.
-use mathlib.Core.Path.{refl}
 use Prim.Native.Nat.{◌≤◌, ◌-◌, ◌+◌, ◌*◌}
-use native.Mathlib.Omega.{arith}
 use lib.ListN.{get_or}
 use Rattle.kernel.specs.Working.{packed}
-use Rattle.blocks.proofs.Entries.{Begun, begun-none, begun-turn}
-use borrow.Author.Rules.{rules}
+use Rattle.blocks.proofs.Entries.{Begun}
 use Rattle.kernel.proofs.plan.pack_all.Given as goal
 
 abbrev pub invariant-loop-i : goal.invariant-loop-i

@@ -2,7 +2,6 @@
 use mathlib.Core.Path.{refl}
 use native.Mathlib.Omega.{arith}
 use Rattle.kernel.specs.Working as Working
-use borrow.Author.Rules.{rules}
 use Rattle.kernel.proofs.plan.place.Goals as goal
 
 pub returns : goal.returns

@@ -1,5 +1,4 @@
 -- `kernel::plan::spread` meets its contract: computed over the bytes. Assumes nothing.
-use mathlib.Core.Path.{◌∙◌}
 use Prim.Native.Nat.{◌*◌}
 use native.Mathlib.Omega.{arith}
 use lib.Bits.{bit_and, and_le_r}

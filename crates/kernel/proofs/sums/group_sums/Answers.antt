@@ -1,7 +1,6 @@
 -- `kernel::sums::group_sums` meets its contract. Assumes nothing.
 use mathlib.Core.Path.{◌∙◌}
 use Rattle.kernel.proofs.Tiles.{group-is}
-use borrow.Author.Rules.{rules}
 use Rattle.kernel.proofs.sums.group_sums.Goals as goal
 
 pub returns : goal.returns

@@ -1,6 +1,5 @@
 -- `kernel::sums::source` meets its contract. Assumes nothing.
 use native.Mathlib.Omega.{arith}
-use borrow.Author.Rules.{rules}
 use Rattle.kernel.proofs.sums.source.Goals as goal
 
 pub overflow_add-starts : goal.overflow_add-starts

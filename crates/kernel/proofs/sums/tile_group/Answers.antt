@@ -1,12 +1,10 @@
 -- `kernel::sums::tile_group` meets its contract: after c turns the group's sums of the first c times 16 bytes are there. Assumes nothing.
 use mathlib.Core.Path.{◌≡◌}
-use Prim.Native.Nat.{◌≤◌, ◌<◌, ◌+◌, ◌-◌, ◌*◌}
+use Prim.Native.Nat.{◌+◌, ◌-◌, ◌*◌}
 use native.Mathlib.Omega.{arith}
 use Rattle.blocks.proofs.Parts.{lent_length}
 use Rattle.blocks.specs.Blocks.{set_part}
-use Rattle.kernel.specs.Working.{Summed}
 use Rattle.kernel.proofs.Tiles.{summed_turn, summed-group}
-use borrow.Author.Rules.{rules}
 use Rattle.kernel.proofs.sums.tile_group.Goals as goal
 
 pub loop-c-init : goal.loop-c-init

@@ -1,10 +1,6 @@
 -- `kernel::sums::tile_sums` meets its contract: after g turns the sums of the first g groups are there. Assumes nothing.
-use mathlib.Core.Path.{◌≡◌}
 use Prim.Native.Nat.{◌≤◌, ◌-◌}
-use native.Mathlib.Omega.{arith}
 use Rattle.kernel.specs.Working.{Summed}
-use Rattle.kernel.proofs.Tiles.{summed-none, prepared}
-use borrow.Author.Rules.{rules}
 use Rattle.kernel.proofs.sums.tile_sums.Given as goal
 
 abbrev pub invariant-loop-g : goal.invariant-loop-g

@@ -1,5 +1,4 @@
 -- The tests, in order. Assumes nothing.
-use borrow.Author.Rules.{rules}
 use Rattle.entries.proofs.Tests.{tests}
 use Rattle.limits.proofs.at_node.are_records_within.Goals as goal
 

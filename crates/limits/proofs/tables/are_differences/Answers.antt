@@ -1,6 +1,5 @@
 -- Within the limits the product fits. Assumes nothing.
 use native.Mathlib.Omega.{arith}
-use borrow.Author.Rules.{rules}
 use Rattle.code.proofs.LimitLaws.{small-table}
 use Rattle.limits.proofs.Limits.{code-sizes, clients-few}
 use Rattle.limits.proofs.tables.are_differences.Goals as goal

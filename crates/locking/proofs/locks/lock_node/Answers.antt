@@ -4,7 +4,6 @@ use mathlib.Core.Bool.{Bool, true, false, cond, ◌||◌}
 use Prim.Native.Nat.{◌+◌}
 use native.Mathlib.Omega.{arith}
 use lib.ListN.{length}
-use borrow.Author.Rules.{rules}
 use Rattle.basics.proofs.Lists.{length-list_of}
 use Rattle.machine.specs.Stripe.{node_at}
 use Rattle.machine.specs.Rebuild.{lock_node}

@@ -1,7 +1,6 @@
 -- By the phase: the node that is left goes to L1. Assumes nothing.
 use mathlib.Core.Path.{refl}
 use mathlib.Core.List.{[], ◌∷◌}
-use borrow.Author.Rules.{rules}
 use borrow.Author.Tests.{ne_eqb}
 use Rattle.machine.specs.Stripe.{guard}
 use Rattle.machine.specs.Rebuild.{tighten, picks}

@@ -1,7 +1,6 @@
 -- By the phase. Assumes nothing.
 use mathlib.Core.Path.{refl}
 use mathlib.Core.List.{[], ◌∷◌}
-use borrow.Author.Rules.{rules}
 use Rattle.machine.specs.Stripe.{guard}
 use Rattle.machine.specs.Rebuild.{unlock, unlocks}
 use Rattle.records.specs.Node.{unlocked}

@@ -1,6 +1,5 @@
 -- By the tests. Assumes nothing.
 use mathlib.Core.Path.{refl}
-use borrow.Author.Rules.{rules}
 use Rattle.machine.specs.Stripe.{guard}
 use Rattle.machine.specs.Rebuild.{quit}
 use Rattle.rebuild.proofs.Stepping.{steps-refused, steps-left, steps-turned, steps_on}

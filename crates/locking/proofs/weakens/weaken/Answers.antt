@@ -1,6 +1,5 @@
 -- The tests, in order; then the weaken in its phase. Assumes nothing.
 use mathlib.Core.Path.{sym, ◌∙◌}
-use borrow.Author.Rules.{rules}
 use Rattle.machine.specs.Rebuild.{weaken}
 use Rattle.records.specs.View.{client_of}
 use Rattle.calls.specs.Answers.{whole}

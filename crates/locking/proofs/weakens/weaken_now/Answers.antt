@@ -2,7 +2,6 @@
 use mathlib.Core.Path.{◌≡◌, refl, sym, ◌∙◌}
 use mathlib.Core.Bool.{true, false}
 use native.Mathlib.Omega.{arith}
-use borrow.Author.Rules.{rules}
 use Rattle.basics.specs.Lists.{every_of}
 use Rattle.machine.specs.Rebuild.{some_recons, weaken}
 use Rattle.records.specs.Node.{held_by}

@@ -1,5 +1,4 @@
 -- No node changes. Assumes nothing.
-use borrow.Author.Rules.{rules}
 use Rattle.picking.proofs.Picked.refused.Goals as goal
 
 pub returns : goal.returns

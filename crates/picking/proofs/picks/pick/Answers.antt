@@ -1,6 +1,5 @@
 -- The tests, in order; then the pick in its phase. Assumes nothing.
 use mathlib.Core.Path.{sym, ◌∙◌}
-use borrow.Author.Rules.{rules}
 use Rattle.machine.specs.Rebuild.{pick, pick_now}
 use Rattle.picking.specs.Picking.{seen_whole}
 use Rattle.rebuild.proofs.Tabled.{tabled-admitted, tabled-tables, tabled-failed, tabled-passed}

@@ -2,7 +2,6 @@
 use mathlib.Core.Path.{◌≡◌, refl, ap, ◌∙◌}
 use Prim.Native.Nat.{◌≤◌}
 use native.Mathlib.Omega.{arith}
-use borrow.Author.Rules.{rules}
 use Rattle.code.specs.View.{node_set_of}
 use Rattle.code.specs.Decode.{size}
 use Rattle.machine.specs.Rebuild.{picked_set}

@@ -1,7 +1,6 @@
 -- The tests, in order. Assumes nothing.
-use mathlib.Core.Path.{◌≡◌, refl, sym, ◌∙◌}
+use mathlib.Core.Path.{refl, sym, ◌∙◌}
 use native.Mathlib.Omega.{arith}
-use borrow.Author.Rules.{rules}
 use Rattle.picking.specs.Picking.{pick_held, seen_whole}
 use Rattle.rebuild.proofs.Limits.{sizes-known}
 use Rattle.picking.proofs.Picking.{picks-refused, picks-made, picks-as, now-exhausted, now-lost, now-held}

@@ -1,6 +1,5 @@
 -- The own node stays, then all that c held becomes EXP. Assumes nothing.
 use mathlib.Core.Path.{refl}
-use borrow.Author.Rules.{rules}
 use Rattle.rebuild.proofs.Stepping.{steps-left}
 use Rattle.rebuild.proofs.Stepped.lost.Goals as goal
 

@@ -1,6 +1,5 @@
 -- By the step's answer. Assumes nothing.
 use mathlib.Core.Path.{sym, ap, ◌∙◌}
-use borrow.Author.Rules.{rules}
 use Rattle.machine.specs.Rebuild.{holding}
 use Rattle.records.specs.Node.{held_by}
 use Rattle.records.specs.View.{node_of}

@@ -1,5 +1,4 @@
 -- By cases of the phase. Assumes nothing.
-use borrow.Author.Rules.{rules}
 use Rattle.rebuild.proofs.phase.is_picking.Goals as goal
 
 pub returns-in-NoRebuild : goal.returns-in-NoRebuild

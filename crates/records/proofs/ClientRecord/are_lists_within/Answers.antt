@@ -1,6 +1,5 @@
 -- The tests, in order. Assumes nothing.
 use native.Mathlib.Omega.{arith}
-use borrow.Author.Rules.{rules}
 use Rattle.entries.proofs.Tests.{tests}
 use Rattle.records.proofs.Limits.{nodes-few}
 use Rattle.records.proofs.ClientRecord.are_lists_within.Goals as goal

@@ -1,5 +1,4 @@
 -- By the parts. Assumes nothing.
-use borrow.Author.Rules.{rules}
 use Rattle.records.proofs.ClientRecord.finish.Goals as goal
 
 pub returns : goal.returns

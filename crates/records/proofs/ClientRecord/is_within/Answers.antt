@@ -1,5 +1,4 @@
 -- The tests, in order. Assumes nothing.
-use borrow.Author.Rules.{rules}
 use Rattle.entries.proofs.Tests.{same-as, tests}
 use Rattle.records.proofs.Limits.{client-tests}
 use Rattle.records.proofs.ClientRecord.is_within.Goals as goal

@@ -1,5 +1,4 @@
 -- The set with j. Assumes nothing.
-use borrow.Author.Rules.{rules}
 use Rattle.records.proofs.ClientRecord.join.Goals as goal
 
 pub returns : goal.returns

@@ -1,5 +1,4 @@
 -- The set without j. Assumes nothing.
-use borrow.Author.Rules.{rules}
 use Rattle.records.proofs.ClientRecord.leave.Goals as goal
 
 pub returns : goal.returns

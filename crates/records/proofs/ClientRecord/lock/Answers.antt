@@ -1,5 +1,4 @@
 -- By the phase. Assumes nothing.
-use borrow.Author.Rules.{rules}
 use Rattle.records.proofs.ClientRecord.lock.Goals as goal
 
 pub returns : goal.returns

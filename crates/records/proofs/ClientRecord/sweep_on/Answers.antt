@@ -1,7 +1,6 @@
 -- By the test. Assumes nothing.
 use Prim.Native.Nat.{◌+◌, ◌*◌}
 use borrow.Author.Tests.{le-leb, lt-leb}
-use borrow.Author.Rules.{rules}
 use Rattle.records.proofs.ClientRecord.sweep_on.Goals as goal
 
 pub returns-then-n-self : goal.returns-then-n-self

@@ -1,5 +1,4 @@
 -- By cases of the hand. Assumes nothing.
-use borrow.Author.Rules.{rules}
 use Rattle.entries.proofs.Lists.{ids-count}
 use Rattle.records.proofs.Hand.is_within.Goals as goal
 

@@ -1,5 +1,4 @@
 -- By cases of the holder. Assumes nothing.
-use borrow.Author.Rules.{rules}
 use Rattle.records.proofs.Holder.is.Goals as goal
 
 pub returns-in-Nobody : goal.returns-in-Nobody

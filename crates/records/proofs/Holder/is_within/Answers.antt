@@ -1,6 +1,5 @@
 -- By cases of the holder. Assumes nothing.
 use mathlib.Core.Path.{◌∙◌}
-use borrow.Author.Rules.{rules}
 use Rattle.entries.proofs.Tests.{tests}
 use Rattle.records.proofs.Limits.{nobody-within, client-within}
 use Rattle.records.proofs.Holder.is_within.Goals as goal

@@ -1,5 +1,4 @@
 -- By what the node tells. Assumes nothing.
-use borrow.Author.Rules.{rules}
 use Rattle.records.proofs.NodeRecord.check.Goals as goal
 
 pub returns : goal.returns

@@ -1,5 +1,4 @@
 -- Refused where the modes are wrong. Assumes nothing.
-use borrow.Author.Rules.{rules}
 use Rattle.entries.proofs.Tests.{tests}
 use Rattle.records.proofs.Steps.{meets-refused, meets-accepted}
 use Rattle.records.proofs.NodeRecord.discard.Goals as goal

@@ -1,6 +1,5 @@
 -- Refused at 16 entries, by the count. Assumes nothing.
 use borrow.Author.Tests.{le-leb, lt-leb}
-use borrow.Author.Rules.{rules}
 use Rattle.entries.specs.Entries.{entry_limit}
 use Rattle.entries.proofs.Lists.{entries-count}
 use Rattle.records.proofs.Steps.{meets-refused, meets-accepted}

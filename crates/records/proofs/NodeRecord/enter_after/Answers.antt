@@ -1,6 +1,5 @@
 -- By cases of the previous id. Assumes nothing.
 use mathlib.Core.Path.{refl}
-use borrow.Author.Rules.{rules}
 use Rattle.records.proofs.Steps.{meets-refused}
 use Rattle.records.proofs.NodeRecord.enter_after.Goals as goal
 

@@ -1,6 +1,5 @@
 -- By the record after the call. Assumes nothing.
 use mathlib.Core.Path.{refl}
-use borrow.Author.Rules.{rules}
 use Rattle.records.proofs.Steps.{meets-accepted}
 use Rattle.records.proofs.NodeRecord.expire.Goals as goal
 

@@ -1,5 +1,4 @@
 -- The two tests, in order. Assumes nothing.
-use borrow.Author.Rules.{rules}
 use Rattle.entries.proofs.Tests.{tests}
 use Rattle.records.proofs.NodeRecord.held_at_l1.Goals as goal
 

@@ -1,5 +1,4 @@
 -- Refused at L0 and L1. Assumes nothing.
-use borrow.Author.Rules.{rules}
 use Rattle.entries.proofs.Tests.{tests}
 use Rattle.records.proofs.Steps.{meets-refused, meets-accepted}
 use Rattle.records.proofs.NodeRecord.lock.Goals as goal

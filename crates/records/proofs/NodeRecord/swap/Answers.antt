@@ -1,5 +1,4 @@
 -- Refused where the modes are wrong; else as entering answers. Assumes nothing.
-use borrow.Author.Rules.{rules}
 use Rattle.entries.proofs.Tests.{tests}
 use Rattle.records.proofs.Steps.{meets-refused, meets-as}
 use Rattle.records.proofs.NodeRecord.swap.Goals as goal

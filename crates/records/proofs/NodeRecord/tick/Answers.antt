@@ -1,6 +1,5 @@
 -- Refused past 16 entries, by the count. Assumes nothing.
 use borrow.Author.Tests.{lt-ltb, le-ltb}
-use borrow.Author.Rules.{rules}
 use Rattle.entries.specs.Entries.{entry_limit}
 use Rattle.entries.proofs.Lists.{entries-count}
 use Rattle.records.proofs.Steps.{meets-refused, meets-accepted}

@@ -1,5 +1,4 @@
 -- Refused if the node is RECONS, then if it is not held. Assumes nothing.
-use borrow.Author.Rules.{rules}
 use Rattle.entries.proofs.Tests.{tests}
 use Rattle.records.proofs.Steps.{meets-refused, meets-accepted}
 use Rattle.records.proofs.NodeRecord.weaken.Goals as goal

@@ -1,5 +1,4 @@
 -- Refused if the node is not held. Assumes nothing.
-use borrow.Author.Rules.{rules}
 use Rattle.entries.proofs.Tests.{tests}
 use Rattle.records.proofs.Steps.{meets-refused, meets-accepted}
 use Rattle.records.proofs.NodeRecord.write.Goals as goal

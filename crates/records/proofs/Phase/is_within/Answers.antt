@@ -1,6 +1,5 @@
 -- By cases of the phase. Assumes nothing.
 use mathlib.Core.Path.{◌∙◌}
-use borrow.Author.Rules.{rules}
 use Rattle.entries.proofs.Tests.{tests}
 use Rattle.records.proofs.Clients.{locking-within}
 use Rattle.records.proofs.Phase.is_within.Goals as goal

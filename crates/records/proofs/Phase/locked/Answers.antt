@@ -2,7 +2,6 @@
 use native.Mathlib.Omega.{arith}
 use borrow.Author.Tests.{le-leb, lt-leb}
 use Rattle.records.proofs.Clients.{lmodes-more, locked-last, locked-more}
-use borrow.Author.Rules.{rules}
 use Rattle.records.proofs.Phase.locked.Goals as goal
 
 pub returns-then-n-j : goal.returns-then-n-j

@@ -1,5 +1,4 @@
 -- By cases of the phase. Assumes nothing.
-use borrow.Author.Rules.{rules}
 use Rattle.entries.proofs.Tests.{tests}
 use Rattle.records.proofs.Phase.next.Goals as goal
 

@@ -1,6 +1,5 @@
 -- By cases of the phase; a list of lmodes is as long as its count says. Assumes nothing.
 use Rattle.records.proofs.Clients.{lmodes-count}
-use borrow.Author.Rules.{rules}
 use Rattle.records.proofs.Phase.node.Goals as goal
 
 pub returns-in-NoRebuild : goal.returns-in-NoRebuild

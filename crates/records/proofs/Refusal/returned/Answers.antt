@@ -1,5 +1,4 @@
 -- By cases of the refusal. Assumes nothing.
-use borrow.Author.Rules.{rules}
 use Rattle.records.proofs.Refusal.returned.Goals as goal
 
 pub returns-in-WrongMode : goal.returns-in-WrongMode

@@ -1,6 +1,5 @@
 -- The tests, in order; the count is the list's length. Assumes nothing.
 use borrow.Author.Tests.{le-leb}
-use borrow.Author.Rules.{rules}
 use Rattle.entries.proofs.Lists.{ids-count}
 use Rattle.entries.proofs.Tests.{tests}
 use Rattle.records.specs.Node.{epoch_limit}

@@ -1,5 +1,4 @@
 -- The set of the position alone. Assumes nothing.
-use borrow.Author.Rules.{rules}
 use Rattle.records.proofs.Write.new.Goals as goal
 
 pub returns : goal.returns

@@ -1,6 +1,5 @@
 -- The part of the spare is its block. Assumes nothing.
 use native.Mathlib.Nat.{add-sub_cancel_left}
-use borrow.Author.Rules.{rules}
 use Rattle.blocks.specs.Blocks.{part}
 use Rattle.restoring.proofs.writes.copy_spare.Goals as goal
 

@@ -1,5 +1,4 @@
 -- By the tests' answer. Assumes nothing.
-use borrow.Author.Rules.{rules}
 use Rattle.machine.specs.Rebuild.{write}
 use Rattle.rebuild.proofs.Stepping.{steps-refused}
 use Rattle.rebuild.proofs.Tabled.{tabled-admitted, tabled-tables, tabled-failed}

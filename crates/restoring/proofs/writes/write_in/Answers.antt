@@ -1,7 +1,6 @@
 -- By the phase. Assumes nothing.
 use mathlib.Core.Path.{refl, ◌∙◌}
 use mathlib.Core.List.{[], ◌∷◌}
-use borrow.Author.Rules.{rules}
 use Rattle.machine.specs.Rebuild.{write, writes}
 use Rattle.rebuild.proofs.Phases.{others, out-of-phase}
 use Rattle.rebuild.proofs.Stepping.{steps-refused}

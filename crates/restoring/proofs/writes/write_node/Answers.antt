@@ -4,7 +4,6 @@ use mathlib.Core.Bool.{true, false}
 use mathlib.Core.List.{List}
 use Prim.Native.Nat.{ℕ}
 use native.Mathlib.Omega.{arith}
-use borrow.Author.Rules.{rules}
 use Rattle.blocks.proofs.Parts.{block-fits}
 use Rattle.code.specs.View.{node_set_of}
 use Rattle.machine.specs.Stripe.{Outcome, Whole, Accepted, answered, guard, node_at}

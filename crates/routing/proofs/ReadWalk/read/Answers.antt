@@ -1,5 +1,4 @@
 -- By whether it goes to its stripe. Assumes nothing.
-use borrow.Author.Rules.{rules}
 use borrow.Author.Tests.{not-true, not-false}
 use Rattle.routing.proofs.ReadWalk.read.Goals as goal
 

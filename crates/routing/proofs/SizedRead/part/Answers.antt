@@ -1,6 +1,5 @@
 -- The stripe's own parts, and the block in one of them. Assumes nothing.
 use mathlib.Core.Path.{◌∙◌}
-use borrow.Author.Rules.{rules}
 use Rattle.routing.proofs.SizedRead.part.Goals as goal
 
 pub returns : goal.returns

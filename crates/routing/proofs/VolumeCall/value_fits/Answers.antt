@@ -1,5 +1,4 @@
 -- By cases of the call. Assumes nothing.
-use borrow.Author.Rules.{rules}
 use Rattle.routing.proofs.VolumeCall.value_fits.Goals as goal
 
 pub returns-in-Step : goal.returns-in-Step

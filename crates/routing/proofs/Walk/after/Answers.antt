@@ -1,7 +1,6 @@
 -- By the test. Assumes nothing.
 use native.Mathlib.Numerals.{add-one}
 use borrow.Author.Tests.{lt-ltb, le-ltb}
-use borrow.Author.Rules.{rules}
 use Rattle.routing.proofs.Walk.after.Goals as goal
 
 pub returns-then-self : goal.returns-then-self

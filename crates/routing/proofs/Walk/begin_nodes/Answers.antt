@@ -1,7 +1,6 @@
 -- By the table's length. Assumes nothing.
 use mathlib.Core.Path.{◌∙◌}
 use borrow.Author.Tests.{le-leb, lt-leb}
-use borrow.Author.Rules.{rules}
 use Rattle.routing.proofs.Walk.begin_nodes.Goals as goal
 
 pub returns-then-end_of_nodes-len : goal.returns-then-end_of_nodes-len

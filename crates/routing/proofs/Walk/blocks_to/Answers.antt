@@ -1,6 +1,5 @@
 -- The part of a table of a stripe's. Assumes nothing.
 use mathlib.Core.Path.{◌∙◌}
-use borrow.Author.Rules.{rules}
 use Rattle.routing.proofs.Walk.blocks_to.Goals as goal
 
 pub returns : goal.returns

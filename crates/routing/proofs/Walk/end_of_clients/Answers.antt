@@ -1,6 +1,5 @@
 -- By the test. Assumes nothing.
 use borrow.Author.Tests.{not-true, not-false}
-use borrow.Author.Rules.{rules}
 use Rattle.routing.proofs.Walk.end_of_clients.Goals as goal
 
 pub returns-then-not-looks : goal.returns-then-not-looks

@@ -1,5 +1,4 @@
 -- The tests, in order. Assumes nothing.
-use borrow.Author.Rules.{rules}
 use Rattle.routing.proofs.Walk.is_one_step.Goals as goal
 
 pub returns-then-not-picks : goal.returns-then-not-picks

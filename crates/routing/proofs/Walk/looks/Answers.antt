@@ -1,5 +1,4 @@
 -- The tests, in order. Assumes nothing.
-use borrow.Author.Rules.{rules}
 use Rattle.routing.proofs.Walk.looks.Goals as goal
 
 pub returns-then-is_stop : goal.returns-then-is_stop

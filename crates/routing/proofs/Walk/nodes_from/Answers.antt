@@ -1,5 +1,4 @@
 -- The part of a table of a stripe's. Assumes nothing.
-use borrow.Author.Rules.{rules}
 use Rattle.routing.proofs.Walk.nodes_from.Goals as goal
 
 pub returns : goal.returns

@@ -1,6 +1,5 @@
 -- By the test of the record. Assumes nothing.
 use mathlib.Core.Path.{◌∙◌}
-use borrow.Author.Rules.{rules}
 use Rattle.routing.proofs.Walk.see_node.Goals as goal
 
 pub returns-then-is_within : goal.returns-then-is_within

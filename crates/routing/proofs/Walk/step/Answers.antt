@@ -1,5 +1,4 @@
 -- By the parts. Assumes nothing.
-use borrow.Author.Rules.{rules}
 use Rattle.routing.proofs.Walk.step.Goals as goal
 
 pub returns : goal.returns

@@ -1,6 +1,5 @@
 -- By the call. Assumes nothing.
 use mathlib.Core.Path.{◌∙◌}
-use borrow.Author.Rules.{rules}
 use Rattle.routing.proofs.Walk.value_to.Goals as goal
 
 pub returns-then-is_failure : goal.returns-then-is_failure

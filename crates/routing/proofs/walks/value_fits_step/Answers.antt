@@ -1,5 +1,4 @@
 -- By cases of the call. Assumes nothing.
-use borrow.Author.Rules.{rules}
 use Rattle.routing.proofs.walks.value_fits_step.Goals as goal
 
 pub returns-in-Swap : goal.returns-in-Swap

@@ -6,7 +6,6 @@ use Rattle.octets.specs.Octets.{word_bytes}
 use Rattle.octets.proofs.Filling.{full}
 use Rattle.image.specs.Records.{hand_bytes, rebuild_bytes, ids_bytes, client_bytes}
 use Rattle.records.specs.View.{client_of}
-use borrow.Author.Rules.{rules}
 use Rattle.serial.proofs.Rows.{four, fill-array}
 use Rattle.serial.proofs.clients.client_bytes.Goals as goal
 

@@ -1,5 +1,4 @@
 -- By cases of the hand. Assumes nothing.
-use borrow.Author.Rules.{rules}
 use Rattle.serial.proofs.clients.hand_bytes.Goals as goal
 
 pub returns-in-Holding : goal.returns-in-Holding

@@ -1,5 +1,4 @@
 -- The bytes of two words. Assumes nothing.
-use borrow.Author.Rules.{rules}
 use Rattle.serial.proofs.clients.phase_bytes.Goals as goal
 
 pub returns : goal.returns

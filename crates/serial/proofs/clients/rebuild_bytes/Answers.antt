@@ -6,7 +6,6 @@ use Rattle.code.proofs.SetBits.{bits-whole}
 use Rattle.records.specs.Sizes.{node_limit}
 use Rattle.records.specs.View.{old_lmodes}
 use Rattle.records.proofs.Clients.{lmodes-count}
-use borrow.Author.Rules.{rules}
 use Rattle.serial.proofs.Phases.{expired-back}
 use Rattle.serial.proofs.clients.rebuild_bytes.Goals as goal
 

@@ -5,7 +5,6 @@ use Prim.Native.Nat.{ℕ}
 use Rattle.octets.specs.Octets.{word_bytes}
 use Rattle.code.proofs.SetBits.{bits-whole}
 use Rattle.image.specs.Records.{id_bytes}
-use borrow.Author.Rules.{rules}
 use Rattle.serial.proofs.Rows.{four, six}
 use Rattle.serial.proofs.clients.write_bytes.Goals as goal
 

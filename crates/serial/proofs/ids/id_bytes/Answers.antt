@@ -1,5 +1,4 @@
 -- The number's bytes are those of a word. Assumes nothing.
-use borrow.Author.Rules.{rules}
 use Rattle.serial.proofs.ids.id_bytes.Goals as goal
 
 pub returns : goal.returns

@@ -1,5 +1,4 @@
 -- The item below the count, else the blank one. Assumes nothing.
-use borrow.Author.Rules.{rules}
 use borrow.Author.Tests.{lt-ltb, le-ltb}
 use Rattle.serial.proofs.ids.id_in.Goals as goal
 

@@ -1,14 +1,9 @@
 -- The count stands in the buffer's first byte, and the first i ids after it. Assumes nothing.
-use mathlib.Core.Path.{refl, ap, ◌∙◌}
 use Prim.Native.Nat.{◌-◌}
-use native.Mathlib.Omega.{arith}
-use lib.ListN.{length, replicate}
 use Rattle.entries.specs.Entries.{finished_limit}
 use Rattle.entries.specs.View.{blank_id, ids_of}
-use Rattle.entries.proofs.Lists.{ids-count}
-use Rattle.image.specs.Records.{id_bytes, ids_bytes}
-use borrow.Author.Rules.{rules}
-use Rattle.serial.proofs.Slots.{Slots, slot_of, slots-none, slots-more, slots-all}
+use Rattle.image.specs.Records.{id_bytes}
+use Rattle.serial.proofs.Slots.{Slots}
 use Rattle.serial.proofs.ids.ids_bytes.Given as goal
 
 abbrev pub invariant-loop-i : goal.invariant-loop-i

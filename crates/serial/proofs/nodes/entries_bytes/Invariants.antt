@@ -1,14 +1,9 @@
 -- The count stands in the buffer's first byte, and the first i entries after it. Assumes nothing.
-use mathlib.Core.Path.{refl, ap, ◌∙◌}
 use Prim.Native.Nat.{◌-◌}
-use native.Mathlib.Omega.{arith}
-use lib.ListN.{length, replicate}
 use Rattle.entries.specs.Entries.{entry_limit, new_entry}
 use Rattle.entries.specs.View.{blank_id, entries_of}
-use Rattle.entries.proofs.Lists.{entries-count}
-use Rattle.image.specs.Records.{entry_bytes, entries_bytes}
-use borrow.Author.Rules.{rules}
-use Rattle.serial.proofs.Slots.{Slots, slot_of, slots-none, slots-more, slots-all}
+use Rattle.image.specs.Records.{entry_bytes}
+use Rattle.serial.proofs.Slots.{Slots}
 use Rattle.serial.proofs.nodes.entries_bytes.Given as goal
 
 abbrev pub invariant-loop-i : goal.invariant-loop-i

@@ -1,5 +1,4 @@
 -- The id's bytes, the mark's and the age. Assumes nothing.
-use borrow.Author.Rules.{rules}
 use Rattle.serial.proofs.nodes.entry_bytes.Goals as goal
 
 pub returns : goal.returns

@@ -9,7 +9,6 @@ use Rattle.code.specs.Bits.{bits_of}
 use Rattle.code.proofs.SetBits.{bits-whole}
 use Rattle.image.specs.Records.{opmode_byte, lmode_byte, holder_byte, entries_bytes, node_bytes}
 use Rattle.records.specs.View.{node_of}
-use borrow.Author.Rules.{rules}
 use Rattle.serial.proofs.Rows.{four, fill-array}
 use Rattle.serial.proofs.nodes.node_bytes.Goals as goal
 

@@ -1,5 +1,4 @@
 -- Fresh nodes and fresh clients. Assumes nothing.
-use borrow.Author.Rules.{rules}
 use Rattle.records.proofs.Limits.{nodes-few}
 use Rattle.limits.proofs.Limits.{clients-few}
 use Rattle.step.proofs.Stripe.fresh.Goals as goal

@@ -1,5 +1,4 @@
 -- Eighteen fresh records. Assumes nothing.
-use borrow.Author.Rules.{rules}
 use Rattle.step.proofs.Records.{nodes-fresh}
 use Rattle.step.proofs.nodes.fresh.Goals as goal
 

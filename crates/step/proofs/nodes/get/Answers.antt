@@ -1,7 +1,6 @@
 -- The node's record, if there is such a node. Assumes nothing.
 use mathlib.Core.Path.{sym, ◌∙◌}
 use native.Mathlib.Omega.{arith}
-use borrow.Author.Rules.{rules}
 use Rattle.records.specs.Node.{failed_node}
 use Rattle.stripe.specs.View.{nodes_of}
 use Rattle.stripe.proofs.NodeLists.{node-past}

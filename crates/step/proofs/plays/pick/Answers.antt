@@ -1,6 +1,5 @@
 -- All nodes and the client taken out, the pick made, and put back if it changed anything. Assumes nothing.
 use mathlib.Core.Path.{sym, ◌∙◌}
-use borrow.Author.Rules.{rules}
 use Rattle.records.proofs.Limits.{nodes-few}
 use Rattle.limits.proofs.Limits.{clients-few}
 use Rattle.step.proofs.Playing.{picks, pick_same, pick_put}

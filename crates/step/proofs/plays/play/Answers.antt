@@ -1,6 +1,5 @@
 -- Outside the limits every call is refused; else by the call. Assumes nothing.
 use mathlib.Core.Path.{sym, ◌∙◌}
-use borrow.Author.Rules.{rules}
 use borrow.Author.Tests.{not-true, not-false}
 use Rattle.step.proofs.Playing.{plays-outside, plays-read}
 use Rattle.step.proofs.plays.play.Goals as goal

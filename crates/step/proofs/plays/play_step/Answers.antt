@@ -1,6 +1,5 @@
 -- The node and the client taken out, the call made, and put back if it changed anything. Assumes nothing.
 use mathlib.Core.Path.{sym, ap, ◌∙◌}
-use borrow.Author.Rules.{rules}
 use Rattle.machine.specs.Stripe.{node_at, client_at}
 use Rattle.basics.specs.Lists.{set_at}
 use Rattle.records.proofs.Limits.{nodes-few}

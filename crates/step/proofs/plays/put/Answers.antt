@@ -1,6 +1,5 @@
 -- The node, what becomes of the others, and the client.  Assumes nothing.
 use mathlib.Core.Path.{ap, ◌∙◌}
-use borrow.Author.Rules.{rules}
 use Rattle.basics.specs.Lists.{set_at}
 use Rattle.records.specs.View.{client_of}
 use Rattle.stripe.specs.Seen.{applied}

@@ -1,5 +1,4 @@
 -- What becomes of the nodes, and the client. Assumes nothing.
-use borrow.Author.Rules.{rules}
 use Rattle.step.proofs.plays.put_picked.Goals as goal
 
 pub returns : goal.returns

@@ -1,6 +1,5 @@
 -- By the call: what is seen of all nodes is not asked of a call that looks at one. Assumes nothing.
 use mathlib.Core.Path.{sym, ◌∙◌}
-use borrow.Author.Rules.{rules}
 use Rattle.step.proofs.Playing.{never}
 use Rattle.step.proofs.plays.see.Goals as goal
 

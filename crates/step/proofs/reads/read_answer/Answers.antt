@@ -1,6 +1,5 @@
 -- Outside the limits it is refused; else the records taken out, and the read on them. Assumes nothing.
 use mathlib.Core.Path.{sym, ◌∙◌}
-use borrow.Author.Rules.{rules}
 use borrow.Author.Tests.{not-true, not-false}
 use Rattle.limits.proofs.Limits.{clients-few}
 use Rattle.records.proofs.Limits.{nodes-few}

@@ -1,6 +1,5 @@
 -- What is seen of all nodes, if they are looked at. Assumes nothing.
 use mathlib.Core.Path.{sym, ◌∙◌}
-use borrow.Author.Rules.{rules}
 use Rattle.step.proofs.Playing.{never}
 use Rattle.step.proofs.reads.see.Goals as goal
 

@@ -1,5 +1,4 @@
 -- By cases of the call. Assumes nothing.
-use borrow.Author.Rules.{rules}
 use Rattle.step.proofs.Shapes.{of-client}
 use Rattle.step.proofs.steps.at_node.Goals as goal
 

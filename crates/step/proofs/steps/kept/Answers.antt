@@ -1,5 +1,4 @@
 -- The change is none. Assumes nothing.
-use borrow.Author.Rules.{rules}
 use Rattle.step.proofs.steps.kept.Goals as goal
 
 pub returns : goal.returns

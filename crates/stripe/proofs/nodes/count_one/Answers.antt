@@ -1,5 +1,4 @@
 -- By the test. Assumes nothing.
-use borrow.Author.Rules.{rules}
 use Rattle.entries.proofs.Tests.{tests}
 use Rattle.stripe.proofs.nodes.count_one.Goals as goal
 

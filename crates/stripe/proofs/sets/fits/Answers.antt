@@ -1,6 +1,5 @@
 -- By the test. Assumes nothing.
 use native.Mathlib.Omega.{arith}
-use borrow.Author.Rules.{rules}
 use borrow.Author.Tests.{le-leb, lt-leb}
 use Rattle.stripe.proofs.IdLists.{recent-count, position-keep, keep-count}
 use Rattle.stripe.proofs.sets.fits.Goals as goal

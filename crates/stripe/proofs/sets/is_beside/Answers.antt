@@ -1,5 +1,4 @@
 -- By the tests. Assumes nothing.
-use borrow.Author.Rules.{rules}
 use Rattle.entries.proofs.Tests.{tests}
 use Rattle.stripe.proofs.sets.is_beside.Goals as goal
 

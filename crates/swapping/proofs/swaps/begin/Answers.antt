@@ -1,5 +1,4 @@
 -- The last recent id is the previous one, and the write's number is used. Assumes nothing.
-use borrow.Author.Rules.{rules}
 use Rattle.swapping.proofs.swaps.begin.Goals as goal
 
 pub returns : goal.returns

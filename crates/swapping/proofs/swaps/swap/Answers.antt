@@ -2,7 +2,6 @@
 use mathlib.Core.Path.{◌≡◌, refl, sym, ◌∙◌}
 use mathlib.Core.Bool.{true, ◌&&◌}
 use mathlib.Core.Option.{Option}
-use borrow.Author.Rules.{rules}
 use Rattle.records.specs.declared.Refusal.{Refusal}
 use Rattle.records.specs.Sizes.{is_position, is_client}
 use Rattle.records.specs.View.{node_of, client_of}

@@ -1,7 +1,6 @@
 -- The part of the client's difference comes back as `set_part` puts it. Assumes nothing.
 use native.Mathlib.Nat.{add-sub_cancel_left}
-use borrow.Author.Rules.{rules}
-use Rattle.blocks.specs.Blocks.{part, set_part}
+use Rattle.blocks.specs.Blocks.{set_part}
 use Rattle.swapping.proofs.swaps.swap_bytes.Goals as goal
 
 pub returns : goal.returns

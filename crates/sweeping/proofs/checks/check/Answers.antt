@@ -2,7 +2,6 @@
 use mathlib.Core.Path.{◌≡◌, ◌∙◌}
 use mathlib.Core.List.{List}
 use Prim.Native.Nat.{ℕ}
-use borrow.Author.Rules.{rules}
 use Rattle.records.specs.View.{node_of, client_of}
 use Rattle.machine.specs.Stripe.{Local}
 use Rattle.machine.specs.Writing as Writing

@@ -1,5 +1,4 @@
 -- The two tests, in order. Assumes nothing.
-use borrow.Author.Rules.{rules}
 use Rattle.entries.proofs.Tests.{tests}
 use Rattle.sweeping.proofs.checks.is_in_range.Goals as goal
 

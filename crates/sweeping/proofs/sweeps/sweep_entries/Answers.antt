@@ -2,7 +2,6 @@
 use mathlib.Core.Path.{◌≡◌, sym, ◌∙◌}
 use mathlib.Core.Bool.{true, false}
 use lib.Dec.{ltb}
-use borrow.Author.Rules.{rules}
 use Rattle.sweeping.proofs.sweeps.sweep_entries.Goals as goal
 
 pub returns-then-is_discarding : goal.returns-then-is_discarding

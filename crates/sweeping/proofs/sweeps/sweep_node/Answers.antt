@@ -1,6 +1,5 @@
 -- As the node answers. Assumes nothing.
 use mathlib.Core.Path.{refl}
-use borrow.Author.Rules.{rules}
 use Rattle.calls.specs.Answers.{local}
 use Rattle.records.specs.View.{node_of, client_of}
 use Rattle.calls.proofs.NodeAnswers.{stepped, sweep-refused, sweep-accepted}

@@ -1,6 +1,5 @@
 -- By whether the tables have their lengths. Assumes nothing.
 use mathlib.Core.Path.{refl}
-use borrow.Author.Rules.{rules}
 use borrow.Author.Tests.{not-true, not-false}
 use Rattle.tables.proofs.Renewal.zero.Goals as goal
 

@@ -1,7 +1,6 @@
 -- The products fit. Assumes nothing.
 use native.Mathlib.Omega.{arith}
 use borrow.Author.Tests.{not-true, not-false}
-use borrow.Author.Rules.{rules}
 use Rattle.tables.proofs.Products.{nodes-length, clients-length, blocks-length, differences_length, value-length}
 use Rattle.tables.proofs.Volume.lengths.Goals as goal
 

@@ -1,6 +1,5 @@
 -- `tables::volumes::stripe_part` meets its contract: the part lies in the table. Assumes nothing.
 use lib.ListN.{length}
-use borrow.Author.Rules.{rules}
 use Rattle.tables.proofs.Parts.{part-within}
 use Rattle.tables.proofs.volumes.stripe_part.Goals as goal
 

@@ -1,7 +1,6 @@
 -- `taking::AllRecords::image` meets its contract. Assumes nothing.
 use borrow.Author.Tests.{not-true, not-false}
 use mathlib.Core.Path.{sym, ◌∙◌}
-use borrow.Author.Rules.{rules}
 use Rattle.taking.proofs.OneImage.{images, images-none}
 use Rattle.taking.proofs.AllRecords.image.Goals as goal
 

@@ -1,7 +1,6 @@
 -- `taking::AllTaken::pick` meets its contract. Assumes nothing.
 use borrow.Author.Tests.{not-true, not-false}
 use mathlib.Core.Path.{refl, sym, ◌∙◌}
-use borrow.Author.Rules.{rules}
 use Rattle.taking.proofs.OnePick.{picks, picks-none}
 use Rattle.taking.proofs.AllTaken.pick.Goals as goal
 

@@ -1,6 +1,5 @@
 -- `taking::AllTaken::picked` meets its contract: it hands on what the pick left, and puts no node back. Assumes nothing.
 use mathlib.Core.Path.{refl}
-use borrow.Author.Rules.{rules}
 use Rattle.taking.proofs.AllTaken.picked.Goals as goal
 
 pub returns : goal.returns

@@ -1,6 +1,5 @@
 -- `taking::Found::none` meets its contract. Assumes nothing.
 use mathlib.Core.Path.{refl}
-use borrow.Author.Rules.{rules}
 use Rattle.taking.proofs.Found.none.Goals as goal
 
 pub returns : goal.returns

@@ -1,5 +1,4 @@
 -- `taking::Found::step` meets its contract. Assumes nothing.
-use borrow.Author.Rules.{rules}
 use Rattle.taking.proofs.OneStep.{refuses, steps}
 use Rattle.taking.proofs.Found.step.Goals as goal
 

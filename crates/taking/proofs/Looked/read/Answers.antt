@@ -1,5 +1,4 @@
 -- `taking::Looked::read` meets its contract. Assumes nothing.
-use borrow.Author.Rules.{rules}
 use Rattle.taking.proofs.OneRead.{reads-found, refuses-read}
 use Rattle.taking.proofs.Looked.read.Goals as goal
 

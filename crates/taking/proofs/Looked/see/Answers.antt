@@ -1,6 +1,5 @@
 -- `taking::Looked::see` meets its contract. Assumes nothing.
 use mathlib.Core.Path.{refl}
-use borrow.Author.Rules.{rules}
 use Rattle.taking.proofs.Looked.see.Goals as goal
 
 pub returns : goal.returns

@@ -1,6 +1,5 @@
 -- `taking::Returned::refused` meets its contract. Assumes nothing.
 use mathlib.Core.Path.{refl}
-use borrow.Author.Rules.{rules}
 use Rattle.taking.proofs.Returned.refused.Goals as goal
 
 pub returns : goal.returns

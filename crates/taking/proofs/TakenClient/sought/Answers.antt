@@ -1,6 +1,5 @@
 -- `taking::TakenClient::sought` meets its contract. Assumes nothing.
 use mathlib.Core.Path.{refl}
-use borrow.Author.Rules.{rules}
 use Rattle.taking.proofs.TakenClient.sought.Goals as goal
 
 pub returns : goal.returns

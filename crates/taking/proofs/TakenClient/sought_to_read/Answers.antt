@@ -1,6 +1,5 @@
 -- `taking::TakenClient::sought_to_read` meets its contract. Assumes nothing.
 use mathlib.Core.Path.{refl}
-use borrow.Author.Rules.{rules}
 use Rattle.taking.proofs.TakenClient.sought_to_read.Goals as goal
 
 pub returns : goal.returns

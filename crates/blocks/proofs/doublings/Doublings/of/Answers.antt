@@ -1,5 +1,4 @@
 -- `blocks::doublings::Doublings::of` meets its contract. Assumes nothing.
-use borrow.Author.Rules.{rules}
 use Rattle.blocks.proofs.doublings.Doublings.of.Goals as goal
 
 pub returns : goal.returns

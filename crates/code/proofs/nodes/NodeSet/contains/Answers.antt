@@ -1,7 +1,6 @@
 -- `code::nodes::NodeSet::contains` meets its contract: node j is bit j - 1. Assumes nothing.
 use mathlib.Core.Path.{sym}
 use native.Mathlib.Omega.{arith}
-use borrow.Author.Rules.{rules}
 use Rattle.code.specs.View.{node_set_of}
 use Rattle.code.proofs.Members.{eighteen, has-bit}
 use Rattle.code.proofs.NodeSets.{has-zero, has-past}

@@ -1,7 +1,6 @@
 -- `code::nodes::NodeSet::first_bits` meets its contract. Assumes nothing.
 use native.Mathlib.Omega.{arith}
 use lib.Pow.{pow_pos}
-use borrow.Author.Rules.{rules}
 use Rattle.code.proofs.SetBits.{power-fits, bits-first}
 use Rattle.code.proofs.nodes.NodeSet.first_bits.Goals as goal
 

@@ -1,7 +1,6 @@
 -- `code::nodes::NodeSet::is_within` meets its contract. Assumes nothing.
 use mathlib.Core.Path.{sym}
 use native.Mathlib.Omega.{arith}
-use borrow.Author.Rules.{rules}
 use Rattle.code.proofs.Members.{within_all, within-some}
 use Rattle.code.proofs.nodes.NodeSet.is_within.Goals as goal
 

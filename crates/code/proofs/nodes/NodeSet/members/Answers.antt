@@ -1,12 +1,11 @@
 -- `code::nodes::NodeSet::members` meets its contract: after j turns r has the members among the first j nodes. Assumes nothing.
-use mathlib.Core.Path.{◌≡◌, refl, sym, ap, ◌∙◌}
-use Prim.Native.Nat.{◌≤◌, ◌-◌}
+use mathlib.Core.Path.{refl, sym, ap, ◌∙◌}
 use native.Mathlib.Omega.{arith}
-use lib.ListN.{length, get_or, length-set}
+use lib.ListN.{get_or, length-set}
 use borrow.Author.Rules.{rules}
-use Rattle.code.specs.Decode.{members, members_from}
+use Rattle.code.specs.Decode.{members_from}
 use Rattle.code.specs.View.{node_set_of}
-use Rattle.code.proofs.Members.{eighteen, has-place, upto, upto-out, count-in, count-out, upto_all, Lists, lists-none, lists-in}
+use Rattle.code.proofs.Members.{eighteen, has-place, upto-out, count-in, count-out, upto_all, lists-none, lists-in}
 use Rattle.code.proofs.nodes.NodeSet.members.Goals as goal
 use Rattle.code.proofs.nodes.NodeSet.members.Goals.{then-contains, else-contains}
 

@@ -1,13 +1,9 @@
 -- `code::nodes::NodeSet::members` meets its contract: after j turns r has the members among the first j nodes. Assumes nothing.
-use mathlib.Core.Logic.{⊎_elim}
-use mathlib.Core.Path.{◌≡◌, refl, sym, ap, ◌∙◌}
+use mathlib.Core.Path.{◌≡◌}
 use Prim.Native.Nat.{◌≤◌, ◌-◌}
-use native.Mathlib.Omega.{arith}
-use lib.ListN.{length, get_or, length-set}
-use borrow.Author.Rules.{rules}
-use Rattle.code.specs.Decode.{members, members_from}
+use lib.ListN.{length}
 use Rattle.code.specs.View.{node_set_of}
-use Rattle.code.proofs.Members.{eighteen, has-place, upto, upto-out, count-in, count-out, upto_all, Lists, lists-none, lists-in}
+use Rattle.code.proofs.Members.{upto, Lists}
 use Rattle.code.proofs.nodes.NodeSet.members.Given as goal
 
 abbrev pub invariant-loop-j : goal.invariant-loop-j

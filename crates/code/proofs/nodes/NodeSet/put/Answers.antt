@@ -1,5 +1,4 @@
 -- `code::nodes::NodeSet::put` meets its contract. Assumes nothing.
-use borrow.Author.Rules.{rules}
 use Rattle.code.proofs.nodes.NodeSet.put.Goals as goal
 
 pub returns-then-member : goal.returns-then-member

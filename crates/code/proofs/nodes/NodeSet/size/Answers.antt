@@ -1,11 +1,9 @@
 -- `code::nodes::NodeSet::size` meets its contract. Assumes nothing.
-use mathlib.Core.Path.{sym}
 use Prim.Native.Nat.{◌%◌, ◌^◌}
 use native.Mathlib.Nat.{mod-lt}
 use native.Mathlib.Omega.{arith}
 use lib.Count.{ones-le}
 use lib.Pow.{pow_pos}
-use borrow.Author.Rules.{rules}
 use Rattle.code.proofs.Members.{size-ones}
 use Rattle.code.proofs.nodes.NodeSet.size.Goals as goal
 

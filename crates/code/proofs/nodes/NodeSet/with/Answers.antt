@@ -1,7 +1,6 @@
 -- `code::nodes::NodeSet::with` meets its contract. Assumes nothing.
 use mathlib.Core.Path.{refl}
 use native.Mathlib.Omega.{arith}
-use borrow.Author.Rules.{rules}
 use Rattle.code.proofs.Members.{with_none, with-one}
 use Rattle.code.proofs.nodes.NodeSet.with.Goals as goal
 

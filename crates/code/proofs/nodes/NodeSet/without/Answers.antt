@@ -1,7 +1,6 @@
 -- `code::nodes::NodeSet::without` meets its contract. Assumes nothing.
 use mathlib.Core.Path.{refl}
 use native.Mathlib.Omega.{arith}
-use borrow.Author.Rules.{rules}
 use Rattle.code.proofs.Members.{without-none, without-one}
 use Rattle.code.proofs.nodes.NodeSet.without.Goals as goal
 

@@ -1,5 +1,4 @@
 -- Eight fresh records. Assumes nothing.
-use borrow.Author.Rules.{rules}
 use Rattle.step.proofs.Records.{clients-fresh}
 use Rattle.step.proofs.clients.Clients.fresh.Goals as goal
 

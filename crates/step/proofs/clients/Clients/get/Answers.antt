@@ -1,7 +1,6 @@
 -- Item c - 1, if there is such a client. Assumes nothing.
 use mathlib.Core.Path.{sym, ◌∙◌}
 use native.Mathlib.Omega.{arith}
-use borrow.Author.Rules.{rules}
 use Rattle.records.specs.Client.{fresh_client}
 use Rattle.records.specs.View.{client_of}
 use Rattle.step.specs.View.{blank_client, clients_of}

@@ -1,7 +1,6 @@
 -- A store at item c - 1, if there is such a client. Assumes nothing.
 use mathlib.Core.Path.{sym}
 use native.Mathlib.Omega.{arith}
-use borrow.Author.Rules.{rules}
 use Rattle.records.specs.View.{client_of}
 use Rattle.step.specs.View.{blank_client, clients_of}
 use Rattle.step.proofs.Items.{set-none, set_past, seen-count, seen-set}

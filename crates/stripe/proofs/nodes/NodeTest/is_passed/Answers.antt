@@ -1,7 +1,6 @@
 -- By cases of the test. Assumes nothing.
 use mathlib.Core.Path.{ap}
 use mathlib.Core.Bool.{not}
-use borrow.Author.Rules.{rules}
 use Rattle.entries.proofs.Tests.{tests}
 use Rattle.stripe.proofs.nodes.NodeTest.is_passed.Goals as goal
 

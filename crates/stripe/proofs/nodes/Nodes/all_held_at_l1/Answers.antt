@@ -1,5 +1,4 @@
 -- All pass where none fails. Assumes nothing.
-use borrow.Author.Rules.{rules}
 use Rattle.stripe.proofs.NodeLists.{none-fails}
 use Rattle.stripe.proofs.nodes.Nodes.all_held_at_l1.Goals as goal
 

@@ -1,12 +1,7 @@
 -- A search: none of the first i nodes passes the test. Assumes nothing.
-use Prim.Native.Nat.{◌-◌}
 use native.Mathlib.Omega.{arith}
-use borrow.Author.Rules.{rules}
-use Rattle.basics.specs.Lists.{some_of}
-use Rattle.entries.proofs.Lists.{Searched, search-start, search-on, search-hit, search-end}
-use Rattle.records.specs.View.{node_of}
+use Rattle.entries.proofs.Lists.{search-start, search-on, search-hit, search-end}
 use Rattle.stripe.specs.Nodes.{passes}
-use Rattle.stripe.specs.View.{record_at}
 use Rattle.stripe.proofs.NodeLists.{some-search}
 use Rattle.stripe.proofs.nodes.Nodes.any.Goals as goal
 

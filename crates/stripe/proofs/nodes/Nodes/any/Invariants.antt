@@ -1,13 +1,10 @@
 -- A search: none of the first i nodes passes the test. Assumes nothing.
 use Prim.Native.Nat.{◌-◌}
-use native.Mathlib.Omega.{arith}
-use borrow.Author.Rules.{rules}
 use Rattle.basics.specs.Lists.{some_of}
-use Rattle.entries.proofs.Lists.{Searched, search-start, search-on, search-hit, search-end}
+use Rattle.entries.proofs.Lists.{Searched}
 use Rattle.records.specs.View.{node_of}
 use Rattle.stripe.specs.Nodes.{passes}
 use Rattle.stripe.specs.View.{record_at}
-use Rattle.stripe.proofs.NodeLists.{some-search}
 use Rattle.stripe.proofs.nodes.Nodes.any.Given as goal
 
 abbrev pub invariant-loop-i : goal.invariant-loop-i

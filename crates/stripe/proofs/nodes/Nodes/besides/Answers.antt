@@ -1,16 +1,13 @@
 -- set has those of nodes 1 to i that fit beside the redundant member. Assumes nothing.
 use mathlib.Core.Bool.{◌&&◌}
-use Prim.Native.Nat.{◌+◌, ◌-◌}
+use Prim.Native.Nat.{◌-◌}
 use native.Mathlib.Omega.{arith}
-use borrow.Author.Rules.{rules}
-use Rattle.code.specs.View.{node_set_of}
 use Rattle.machine.specs.Stripe.{node_at}
 use Rattle.machine.specs.Rebuild.{fits}
 use Rattle.records.specs.Node.{is_norm}
-use Rattle.stripe.specs.Sets.{fits_beside, ids_at}
-use Rattle.stripe.specs.View.{nodes_of, record_at, recent_of}
+use Rattle.stripe.specs.View.{nodes_of}
 use Rattle.stripe.proofs.NodeLists.{node-past}
-use Rattle.stripe.proofs.PickedSets.{Marked, mark-start, mark_on, mark-end, known-few, beside-is}
+use Rattle.stripe.proofs.PickedSets.{mark-start, mark_on, mark-end, known-few, beside-is}
 use Rattle.stripe.proofs.nodes.Nodes.besides.Goals as goal
 
 pub loop-i-init : goal.loop-i-init

@@ -1,15 +1,9 @@
 -- Places from the first to i are changed. Assumes nothing.
-use mathlib.Core.Path.{sym, ap, ◌∙◌}
-use Prim.Native.Nat.{◌≤◌, ◌<◌, ◌-◌}
-use native.Mathlib.Omega.{arith}
-use borrow.Author.Rules.{rules}
+use Prim.Native.Nat.{◌-◌}
 use Rattle.records.specs.View.{node_of}
 use Rattle.stripe.specs.Seen.{changed_at, first_of, end_of}
-use Rattle.stripe.specs.View.{blank_record, record_at, nodes_of}
-use Rattle.stripe.proofs.Applied.{applied-is, range-order, range-end}
-use Rattle.stripe.proofs.Changes.{node-there}
-use Rattle.stripe.proofs.Loops.{Stored, store-start, store-next, store-on}
-use Rattle.stripe.proofs.NodeLists.{eighteen, nodes-count}
+use Rattle.stripe.specs.View.{blank_record, record_at}
+use Rattle.stripe.proofs.Loops.{Stored}
 use Rattle.stripe.proofs.nodes.Nodes.change.Given as goal
 
 abbrev pub invariant-loop-i : goal.invariant-loop-i

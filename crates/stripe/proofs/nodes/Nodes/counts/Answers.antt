@@ -1,7 +1,6 @@
 -- By the tests. Assumes nothing.
 use mathlib.Core.Path.{ap}
 use mathlib.Core.Bool.{not}
-use borrow.Author.Rules.{rules}
 use Rattle.entries.proofs.Tests.{tests, and-on}
 use Rattle.stripe.proofs.nodes.Nodes.counts.Goals as goal
 

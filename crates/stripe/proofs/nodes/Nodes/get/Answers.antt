@@ -1,7 +1,6 @@
 -- Node j is item j - 1. Assumes nothing.
 use mathlib.Core.Path.{sym}
 use native.Mathlib.Omega.{arith}
-use borrow.Author.Rules.{rules}
 use Rattle.stripe.proofs.NodeLists.{node_at_lem}
 use Rattle.stripe.proofs.nodes.Nodes.get.Goals as goal
 

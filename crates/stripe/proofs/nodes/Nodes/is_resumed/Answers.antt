@@ -1,6 +1,5 @@
 -- By cases of node j's opmode. Assumes nothing.
 use native.Mathlib.Omega.{arith}
-use borrow.Author.Rules.{rules}
 use Rattle.stripe.proofs.nodes.Nodes.is_resumed.Goals as goal
 
 pub returns-in-Norm : goal.returns-in-Norm

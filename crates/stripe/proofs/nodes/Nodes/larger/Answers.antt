@@ -1,6 +1,5 @@
 -- By the tests of node r and of the sizes. Assumes nothing.
 use native.Mathlib.Omega.{arith}
-use borrow.Author.Rules.{rules}
 use borrow.Author.Tests.{lt-ltb, le-ltb}
 use Rattle.stripe.proofs.nodes.Nodes.larger.Goals as goal
 

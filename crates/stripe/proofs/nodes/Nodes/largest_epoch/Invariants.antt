@@ -1,13 +1,8 @@
 -- largest is the largest epoch of the first i nodes. Assumes nothing.
-use mathlib.Core.Path.{refl}
 use Prim.Native.Nat.{◌-◌}
-use native.Mathlib.Omega.{arith}
-use borrow.Author.Rules.{rules}
-use Rattle.basics.specs.Lists.{list_of}
 use Rattle.machine.specs.Rebuild.{largest_epoch}
 use Rattle.stripe.specs.View.{nodes_of}
-use Rattle.stripe.proofs.Loops.{Reached, reach-start, reach-on, reach-end}
-use Rattle.stripe.proofs.NodeLists.{epoch-more}
+use Rattle.stripe.proofs.Loops.{Reached}
 use Rattle.stripe.proofs.nodes.Nodes.largest_epoch.Given as goal
 
 abbrev pub invariant-loop-i : goal.invariant-loop-i

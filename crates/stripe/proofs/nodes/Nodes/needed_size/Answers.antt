@@ -1,6 +1,5 @@
 -- By the tests. Assumes nothing.
 use native.Mathlib.Omega.{arith}
-use borrow.Author.Rules.{rules}
 use Rattle.stripe.proofs.nodes.Nodes.needed_size.Goals as goal
 
 pub returns-then-some_recons : goal.returns-then-some_recons

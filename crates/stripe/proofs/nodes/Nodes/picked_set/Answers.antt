@@ -1,5 +1,4 @@
 -- By the test. Assumes nothing.
-use borrow.Author.Rules.{rules}
 use Rattle.stripe.proofs.nodes.Nodes.picked_set.Goals as goal
 
 pub returns-then-some_recons : goal.returns-then-some_recons

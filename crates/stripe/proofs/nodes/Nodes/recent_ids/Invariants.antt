@@ -1,12 +1,10 @@
 -- out has the recent ids of the first i entries. Assumes nothing.
 use Prim.Native.Nat.{◌-◌}
-use native.Mathlib.Omega.{arith}
 use lib.ListN.{get_or}
-use borrow.Author.Rules.{rules}
 use Rattle.machine.specs.Rebuild.{recent_ids}
 use Rattle.entries.specs.View.{entry_of, blank_entry}
 use Rattle.stripe.specs.View.{nodes_of}
-use Rattle.stripe.proofs.IdLists.{Kept, recent-keep, keep-start, keep-on, keep-end}
+use Rattle.stripe.proofs.IdLists.{Kept}
 use Rattle.stripe.proofs.nodes.Nodes.recent_ids.Given as goal
 
 abbrev pub invariant-loop-i : goal.invariant-loop-i

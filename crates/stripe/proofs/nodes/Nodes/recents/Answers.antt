@@ -1,11 +1,6 @@
 -- Items 0 to i are the recent ids of nodes 1 to i. Assumes nothing.
-use Prim.Native.Nat.{suc, ◌-◌}
 use native.Mathlib.Omega.{arith}
-use borrow.Author.Rules.{rules}
-use Rattle.machine.specs.Rebuild.{f}
-use Rattle.stripe.specs.Sets.{blank_ids}
-use Rattle.stripe.specs.View.{nodes_of, recent_of}
-use Rattle.stripe.proofs.Loops.{Stored, store-start, store-on}
+use Rattle.stripe.proofs.Loops.{store-start, store-on}
 use Rattle.stripe.proofs.NodeLists.{node-item}
 use Rattle.stripe.proofs.nodes.Nodes.recents.Goals as goal
 

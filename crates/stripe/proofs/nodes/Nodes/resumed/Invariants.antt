@@ -1,13 +1,9 @@
 -- set has those of nodes 1 to i that an unfinished rebuild is resumed with. Assumes nothing.
 use Prim.Native.Nat.{◌+◌, ◌-◌}
-use native.Mathlib.Numerals.{add-one}
-use native.Mathlib.Omega.{arith}
-use borrow.Author.Rules.{rules}
 use Rattle.code.specs.View.{node_set_of}
 use Rattle.stripe.specs.Sets.{is_resumed}
 use Rattle.stripe.specs.View.{nodes_of}
-use Rattle.stripe.proofs.NodeLists.{node-past}
-use Rattle.stripe.proofs.PickedSets.{Marked, mark-start, mark_on, mark-end}
+use Rattle.stripe.proofs.PickedSets.{Marked}
 use Rattle.stripe.proofs.nodes.Nodes.resumed.Given as goal
 
 abbrev pub invariant-loop-i : goal.invariant-loop-i

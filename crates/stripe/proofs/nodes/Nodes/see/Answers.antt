@@ -1,8 +1,7 @@
 -- What is seen of the first i nodes. Assumes nothing.
 use mathlib.Core.Path.{sym, ap, ◌∙◌}
-use Prim.Native.Nat.{ℕ, ◌-◌, ◌≤◌}
+use Prim.Native.Nat.{ℕ}
 use native.Mathlib.Omega.{arith}
-use borrow.Author.Rules.{rules}
 use Rattle.basics.specs.Lists.{list_of}
 use Rattle.basics.proofs.Tests.{clash}
 use borrow.Author.Tests.{not-true, not-false}
@@ -12,7 +11,7 @@ use Rattle.records.specs.View.{node_of}
 use Rattle.records.proofs.Limits.{nodes-few}
 use Rattle.stripe.specs.Seen.{seen_with}
 use Rattle.stripe.specs.View.{record_at, nodes_of}
-use Rattle.stripe.proofs.Loops.{Reached, reach-start, reach-on, reach-end}
+use Rattle.stripe.proofs.Loops.{reach-start, reach-on, reach-end}
 use Rattle.stripe.proofs.NodeLists.{nodes-count}
 use Rattle.stripe.proofs.Seeing.{seen_of, seen_none_lem, seen_last, sees-all}
 use Rattle.stripe.proofs.nodes.Nodes.see.Goals as goal

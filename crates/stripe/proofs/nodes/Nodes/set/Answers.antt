@@ -1,5 +1,4 @@
 -- A store at item j - 1. Assumes nothing.
-use borrow.Author.Rules.{rules}
 use native.Mathlib.Omega.{arith}
 use Rattle.stripe.proofs.NodeLists.{eighteen, node-set}
 use Rattle.stripe.proofs.nodes.Nodes.set.Goals as goal

@@ -1,7 +1,6 @@
 -- By what the change is. Assumes nothing.
 use mathlib.Core.Path.{refl}
 use native.Mathlib.Omega.{arith}
-use borrow.Author.Rules.{rules}
 use Rattle.stripe.proofs.seen.Change.end.Goals as goal
 
 pub returns-in-Keep : goal.returns-in-Keep

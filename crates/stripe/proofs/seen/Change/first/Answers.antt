@@ -1,5 +1,4 @@
 -- By what the change is. Assumes nothing.
-use borrow.Author.Rules.{rules}
 use Rattle.stripe.proofs.seen.Change.first.Goals as goal
 
 pub returns-in-Weaken : goal.returns-in-Weaken

@@ -1,16 +1,13 @@
 -- By what the change is: the record after the node's own step. Assumes nothing.
-use mathlib.Core.Path.{◌≡◌, refl, sym, ap, ◌∙◌}
+use mathlib.Core.Path.{◌≡◌, ap, ◌∙◌}
 use mathlib.Core.Bool.{Bool, true, false, cond, ◌||◌, not}
 use Prim.Native.Nat.{ℕ}
 use lib.Dec.{ltb}
 use lib.ListN.{length}
-use borrow.Author.Rules.{rules}
 use Rattle.entries.specs.Entries.{entry_limit}
 use Rattle.records.specs.declared.NodeRecord.{NodeRecord}
 use Rattle.records.specs.declared.NodeStep.{NodeStep}
-use Rattle.records.specs.declared.NodeAnswer.{NodeAnswer}
 use Rattle.records.specs.declared.NodeAnswer.TheVariants.{Accepted, Refused}
-use Rattle.records.specs.declared.Refusal.{Refusal}
 use Rattle.records.specs.declared.Refusal.TheVariants.{OutOfLimits, OutOfPhase, NotHeld}
 use Rattle.records.specs.Node.{Node, is_recons, held_by, weakened_by, ticked}
 use Rattle.records.specs.NodeSteps.{LeftAtNode, MeetsAtNode, weaken_answer, tick_answer}

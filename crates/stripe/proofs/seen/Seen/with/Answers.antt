@@ -1,5 +1,4 @@
 -- The tests of one node more. Assumes nothing.
-use borrow.Author.Rules.{rules}
 use Rattle.stripe.proofs.seen.Seen.with.Goals as goal
 
 pub returns : goal.returns

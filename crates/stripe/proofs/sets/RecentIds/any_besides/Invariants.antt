@@ -1,16 +1,12 @@
 -- A search: each of the first i ids is among the others. Assumes nothing.
-use mathlib.Core.Path.{ap}
 use mathlib.Core.Bool.{not}
 use Prim.Native.Nat.{◌-◌}
-use native.Mathlib.Omega.{arith}
 use lib.ListN.{get_or}
-use borrow.Author.Rules.{rules}
 use Rattle.basics.specs.Lists.{some_of}
 use Rattle.entries.specs.Entries.{is_in}
 use Rattle.entries.specs.View.{blank_id}
-use Rattle.entries.proofs.Lists.{Searched, search-start, search-on, search-hit, search-end}
+use Rattle.entries.proofs.Lists.{Searched}
 use Rattle.stripe.specs.View.{recent_of}
-use Rattle.stripe.proofs.NodeLists.{some-search}
 use Rattle.stripe.proofs.sets.RecentIds.any_besides.Given as goal
 
 abbrev pub invariant-loop-i : goal.invariant-loop-i

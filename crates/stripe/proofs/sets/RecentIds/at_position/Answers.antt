@@ -1,11 +1,6 @@
 -- out has the ids of the position among the first p. Assumes nothing.
-use Prim.Native.Nat.{◌-◌}
 use native.Mathlib.Omega.{arith}
-use lib.ListN.{get_or}
-use borrow.Author.Rules.{rules}
-use Rattle.machine.specs.Rebuild.{at_position}
-use Rattle.entries.specs.View.{blank_id}
-use Rattle.stripe.proofs.IdLists.{Kept, position-keep, keep-start, keep-on, keep-end}
+use Rattle.stripe.proofs.IdLists.{position-keep, keep-start, keep-on, keep-end}
 use Rattle.stripe.proofs.sets.RecentIds.at_position.Goals as goal
 
 pub loop-p-init : goal.loop-p-init

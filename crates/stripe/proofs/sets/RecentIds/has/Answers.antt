@@ -1,11 +1,6 @@
 -- A search: none of the first i ids is the id. Assumes nothing.
-use Prim.Native.Nat.{◌-◌}
 use native.Mathlib.Omega.{arith}
-use lib.ListN.{get_or}
-use borrow.Author.Rules.{rules}
-use Rattle.entries.specs.Entries.{is_in}
-use Rattle.entries.specs.View.{blank_id}
-use Rattle.entries.proofs.Lists.{Searched, search-start, search-on, search-hit, search-end}
+use Rattle.entries.proofs.Lists.{search-start, search-on, search-hit, search-end}
 use Rattle.stripe.proofs.IdLists.{ids-search}
 use Rattle.stripe.proofs.sets.RecentIds.has.Goals as goal
 

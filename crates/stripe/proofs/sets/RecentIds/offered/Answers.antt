@@ -2,7 +2,7 @@
 use mathlib.Core.Path.{sym}
 use mathlib.Core.List.{append-nil}
 use borrow.Author.Rules.{rules}
-use Rattle.entries.proofs.Lists.{below-array, list_of-push}
+use Rattle.entries.proofs.Lists.{list_of-push}
 use Rattle.stripe.specs.View.{recent_of}
 use Rattle.stripe.proofs.sets.RecentIds.offered.Goals as goal
 

@@ -1,5 +1,4 @@
 -- Each list is in the other. Assumes nothing.
-use borrow.Author.Rules.{rules}
 use Rattle.entries.proofs.Tests.{and-on, and-off}
 use Rattle.stripe.proofs.NodeLists.{none-fails}
 use Rattle.stripe.proofs.sets.RecentIds.same.Goals as goal

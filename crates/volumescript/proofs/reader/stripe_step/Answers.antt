@@ -1,0 +1,22 @@
+-- `volumescript::reader::stripe_step` meets its contract. Assumes nothing.
+use Rattle.script.specs.Reading.{clipped_from, number_from}
+use Rattle.script.specs.Reading as script
+use Rattle.volumescript.specs.Reading.{goes_on}
+use Rattle.volumescript.proofs.Reading.{at-space, at_other}
+use Rattle.volumescript.proofs.reader.stripe_step.Goals as goal
+
+pub returns-then-byte-ne-SPACE : goal.returns-then-byte-ne-SPACE
+unfolding goes_on
+returns-then-byte-ne-SPACE c = λ value. at_other c.if-byte-ne-SPACE.true (λ p ps. rw (c.extended.ensures p))
+
+pub returns-in-Digits : goal.returns-in-Digits
+unfolding goes_on script.goes_on number_from clipped_from
+returns-in-Digits c = λ value. at-space c.if-byte-ne-SPACE.false (λ p ps. rw c.in-Digits.is)
+
+pub returns-in-Empty : goal.returns-in-Empty
+unfolding goes_on number_from
+returns-in-Empty c = λ value. at-space c.if-byte-ne-SPACE.false (λ p ps. rw c.in-Empty.is)
+
+pub returns-in-Bad : goal.returns-in-Bad
+unfolding goes_on number_from
+returns-in-Bad c = λ value. at-space c.if-byte-ne-SPACE.false (λ p ps. rw c.in-Bad.is)
