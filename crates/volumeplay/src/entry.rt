@@ -1,4 +1,4 @@
-// The lines of a script, one after the other, on the volume's tables. Each of these is walked by a law.
+// The lines of a script, one after the other, on the volume's tables.
 ghost use Rattle.std.specs.Prelude.{◌≡◌, IfOk};
 ghost use Rattle.volumeplay.specs.Asking.{AnswersPart, CallsPart};
 

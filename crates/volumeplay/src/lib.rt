@@ -1,7 +1,7 @@
 // Plays the lines of a script on a volume of many stripes.
 //
-// The records of all nodes and clients are local arrays of one function, which plays the lines (entry.rt): the toolchain walks no function over a slice of
-// structs by itself, so this function and those that it lends the records to do nothing else, and each is walked by a law. All the rest is by value.
+// The records of all nodes and clients are local arrays of one function, which plays the lines and lends them to the calls (entry.rt) and to the loops that
+// take a stripe's records out of them (table.rt). All the rest is by value.
 #![tactic(auto)]
 
 mod asking; // asking.rt: what a turn asks of the volume, and of which part of the tables

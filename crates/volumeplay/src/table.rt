@@ -1,4 +1,4 @@
-// The records of one stripe are taken out of their tables. Each of these is walked by a law.
+// The records of one stripe are taken out of their tables.
 ghost use Rattle.volumeplay.specs.Stripes.{ClientsTook, NodesTook};
 
 use crate::Turn;
