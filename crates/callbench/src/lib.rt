@@ -1,6 +1,7 @@
 // Calls on lent tables, one after another, for the benchmark to time: by the entry points of one stripe, and by that of a volume. And images and reads
 // of a stripe by value.
 #![tactic(auto)]
+
 mod images; // images.rt: images of a stripe by value
 mod reads; // reads.rt: reads of a stripe by value
 mod runs; // runs.rt: the calls

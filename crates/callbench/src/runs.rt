@@ -1,5 +1,5 @@
 // Calls one after another on tables that are the function's own, and are lent for each call: those of one stripe, of a volume of one stripe, and of the
-// largest volume. Walked by one law, which is why a volume's pick and its other calls stand apart.
+// largest volume. A volume's pick and its other calls stand apart, as those of one stripe do.
 ghost use Rattle.std.specs.Prelude.{◌≡◌};
 
 use crate::Run;
