@@ -84,8 +84,8 @@ module _ {N C Q A : Type 0}
   inside-at n c b s d v asked q q-is answer ns cs bs ss ds a0 e0 a1 e1 a2 e2 a3 e3 a4 e4 a5 e5 in-n in_c in_b in-s in-d n-at c_at b-at s-at d-at v-at
       n-long c-long b-long s-long d-long said =
       transport (λ i. Inside R (range_is n a0 e0 n-at i) (range_is c a1 e1 c_at i) (range_is b a2 e2 b-at i) (range_is s a3 e3 s-at i)
-          (range_is d a4 e4 d-at i) (range_is v a5 e5 v-at i) nodes clients blocks spare differences value (q-is i) answer
-          (paste a0 e0 nodes ns) (paste a1 e1 clients cs) (paste a2 e2 blocks bs) (paste a3 e3 spare ss) (paste a4 e4 differences ds))
+      (range_is d a4 e4 d-at i) (range_is v a5 e5 v-at i) nodes clients blocks spare differences value (q-is i) answer
+      (paste a0 e0 nodes ns) (paste a1 e1 clients cs) (paste a2 e2 blocks bs) (paste a3 e3 spare ss) (paste a4 e4 differences ds))
       (inside R (range a0 e0) (range a1 e1) (range a2 e2) (range a3 e3) (range a4 e4) (range a5 e5) nodes clients blocks spare differences value
       (lies n a0 e0 n-at (length nodes) in-n) (lies c a1 e1 c_at (length clients) in_c) (lies b a2 e2 b-at (length blocks) in_b)
       (lies s a3 e3 s-at (length spare) in-s) (lies d a4 e4 d-at (length differences) in-d)
