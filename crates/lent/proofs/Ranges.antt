@@ -1,11 +1,11 @@
 -- A loop over a range of a lent table, turn by turn: what an invariant says of it, whatever the records are. Assumes nothing.
 --     Seen       the records from place a on and before i have been shown to an accumulator, which is u now
---                seen-start, seen-more, seen-ends       before the first turn, one turn on, and after the last
+--         seen-more, seen-ends      one turn on, and after the last
 --     Turned     those records have been changed, and the table is zs now
---                turned-start, turned-more, turned-ends the same
-use Rattle.std.proofs.Common.{List, ◌≡◌, ◌≢◌, ℕ, suc, ◌+◌, ◌-◌, ◌<◌, ◌≤◌, ◌⊎◌, length, get_or, set, refl, sym, ap, ◌∙◌, subst, inl, inr, arith, length-set, get_or-set_same, get_or-set_other}
+--         turned-ends               after the last turn
+use Rattle.std.proofs.Common.{List, ◌≡◌, ℕ, suc, ◌+◌, ◌-◌, ◌<◌, ◌≤◌, ◌⊎◌, length, get_or, sym, ap, ◌∙◌, subst, inl, inr, arith}
 use Rattle.std.proofs.lemmas.List.{get_or_default}
-use Rattle.std.proofs.lemmas.Bool.{cases_eq, cases_lt}
+use Rattle.std.proofs.lemmas.Bool.{cases_lt}
 use Rattle.lent.specs.Ranges.{seen_in, Changed}
 
 pub record Seen {S A : Type 0} (f : A → ℕ → S → A) (d : S) (t : A) (ys : List S) (a e i : ℕ) (u : A) : Type 0 where
@@ -14,12 +14,6 @@ pub record Seen {S A : Type 0} (f : A → ℕ → S → A) (d : S) (t : A) (ys :
   pub is : u ≡ seen_in f d t ys a (i - a)
 
 module _ {S A : Type 0} {f : A → ℕ → S → A} {d : S} {t : A} {ys : List S} {a e : ℕ} where
-  pub seen-start : Seen f d t ys a e a t
-  seen-start = record { from = omega arith; to = omega arith; is = ap (λ k. seen_in f d t ys a k) none }
-    where
-      none : 0 ≡ a - a
-      none = omega arith
-
   -- the loop ends within the table; b is what would stand past its end
   pub seen-more : {i : ℕ} {u : A} → Seen f d t ys a e i u → i < e → e ≤ length ys → (b : S) {v : A} → v ≡ f u i (get_or ys i b) → Seen f d t ys a e (i + 1) v
   seen-more {i = i} {u = u} s l room b {v = v} v-is = record {
@@ -52,44 +46,6 @@ pub record Turned {S : Type 0} (R : ℕ → S → S → Type 0) (d : S) (a e : �
   pub rest : (j : ℕ) → i ≤ j → get_or zs j d ≡ get_or ys j d
 
 module _ {S : Type 0} {R : ℕ → S → S → Type 0} {d : S} {a e : ℕ} {ys : List S} where
-  pub turned-start : Turned R d a e ys a ys
-  turned-start = record {
-    from = omega arith;
-    to = omega arith;
-    long = refl;
-    done = λ j h l. absurd (omega (arith, h, l));
-    before = λ j l. refl;
-    rest = λ j l. refl;
-  }
-
-  pub turned-more : {i : ℕ} {zs : List S} → Turned R d a e ys i zs → i < e → e ≤ length ys → (b : S) {v : S} → R i (get_or zs i b) v
-      → Turned R d a e ys (i + 1) (set zs i v)
-  turned-more {i = i} {zs = zs} s l room b {v = v} made = record {
-    from = omega (arith, s.from);
-    to = omega (arith, s.from, l);
-    long = length-set zs i v ∙ s.long;
-    done = done;
-    before = λ j h. let ne : j ≢ i = omega (arith, h, s.from) in get_or-set_other zs i j v d ne ∙ s.before j h;
-    rest = λ j h. let ne : j ≢ i = omega (arith, h) in get_or-set_other zs i j v d ne ∙ s.rest j (omega (arith, h));
-  }
-    where
-      here : i < length zs
-      here = omega (arith, l, room, s.long)
-
-      old : get_or zs i b ≡ get_or ys i d
-      old = get_or_default zs i b d here ∙ s.rest i (omega arith)
-
-      now : get_or (set zs i v) i d ≡ v
-      now = get_or-set_same zs i v d here
-
-      done : (j : ℕ) → a ≤ j → j < i + 1 → R j (get_or ys j d) (get_or (set zs i v) j d)
-      done j h k = by (cases_eq j i)
-        where
-          by : (j ≡ i) ⊎ (j ≢ i) → R j (get_or ys j d) (get_or (set zs i v) j d)
-          by (inl q) = subst (λ m. R m (get_or ys m d) (get_or (set zs i v) m d)) (sym q)
-              (subst (λ x. R i x (get_or (set zs i v) i d)) old (subst (λ x. R i (get_or zs i b) x) (sym now) made))
-          by (inr ne) = subst (λ x. R j (get_or ys j d) x) (sym (get_or-set_other zs i j v d ne)) (s.done j h (omega (arith, k, ne)))
-
   pub turned-ends : {i : ℕ} {zs : List S} → Turned R d a e ys i zs → e ≤ i → {a' e' : ℕ} → a ≡ a' → e ≡ e' → Changed R d a' e' ys zs
   turned-ends {i = i} {zs = zs} s l {a' = a'} {e' = e'} a-is e-is = record {
     len = s.long;

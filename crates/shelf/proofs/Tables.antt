@@ -24,7 +24,7 @@ use Rattle.records.specs.View.{client_of, node_of}
 use Rattle.step.specs.View.{blank_client}
 use Rattle.stripe.specs.Seen.{Sees, changed_at, end_of, first_of}
 use Rattle.stripe.specs.View.{blank_record}
-use Rattle.stripe.proofs.Applied.{applied-is, range-end}
+use Rattle.stripe.proofs.Applied.{applied-is}
 use Rattle.stripe.proofs.Seeing.{seen_of, seen_last, seen_none_lem, sees-all}
 use Rattle.taking.specs.declared.Found.{Found}
 use Rattle.taking.specs.declared.Looked.{Looked}
@@ -57,9 +57,6 @@ looked-ends q n l b = rw (← b.1.0) (by l.sought.all)
     by : (t : Bool) → cond t l.len 0 ≤ l.len
     by true = omega arith
     by false = omega arith
-
-pub others-ends : (o : Others) (n : ℕ) → end_of o.change n ≤ n
-others-ends o n = range-end o.change n
 
 -- one turn if the table has record j, and none if not
 turns : (j n : ℕ) → ((end_at j n - place_of j ≡ 1) × ((1 ≤ j) × (j ≤ n))) ⊎ ((end_at j n - place_of j ≡ 0) × (1 ≤ j → n < j))

@@ -1,8 +1,18 @@
 -- What shelf's call says of the parts, said of the tables.
+use Rattle.std.proofs.Common.{◌≤◌, length, rules}
 use Rattle.routing.specs.Walks.{step_request_of}
 use Rattle.shelf.specs.Shelf.{StepsLent}
 use Rattle.volumeshelf.proofs.OnParts.{on-parts}
+use Rattle.volumeshelf.proofs.Parts.{differences-within}
 use Rattle.volumeshelf.proofs.entry.step_one.Goals as goal
+
+pub slice_bounds-step-count-5 : goal.slice_bounds-step-count-5
+slice_bounds-step-count-5 c = rw (c.differences_from-a4.ensures, c.differences_to-e4.ensures) (differences-within c.args.walk (length c.args.differences.now)).order
+
+pub slice_bounds-step-start-5 : goal.slice_bounds-step-start-5
+slice_bounds-step-start-5 c =
+    let order : c.differences_from-a4.result ≤ c.differences_to-e4.result = rw (c.differences_from-a4.ensures, c.differences_to-e4.ensures) (differences-within c.args.walk (length c.args.differences.now)).order in
+    search rules
 
 pub returns : goal.returns
 returns c =
