@@ -1,5 +1,5 @@
 // The lines of a script, one after the other, on the volume's tables.
-ghost use Rattle.std.specs.Prelude.{◌≡◌, IfOk};
+ghost use Rattle.std.specs.Prelude.{◌≡◌, length, IfOk, OnErr};
 ghost use Rattle.volumeplay.specs.Asking.{AnswersPart, CallsPart};
 
 use crate::table::{take_clients, take_nodes};
@@ -67,7 +67,7 @@ fn read_part(nodes: &[NodeRecord], clients: &[ClientRecord], turn: Turn) -> Answ
     walk.after_read(answer)
 }
 
-// All lines, from fresh records on.
+// All lines, from fresh records on. A read or a write that fails ends it, with that error alone.
 pub fn play<R: Read, W: Write>(
     from: &mut R,
     to: &mut W,
@@ -81,7 +81,10 @@ pub fn play<R: Read, W: Write>(
     client: ClientRecord,
     start: Player,
 ) -> Result<Player>
-    ensures { IfOk result (λ player. player.left ≡ 0) }
+    ensures ended { IfOk result (λ player. player.left ≡ 0) }
+    ensures err { OnErr result ((length blocks.new ≡ length blocks.old) × (length spare.new ≡ length spare.old)
+        × (length differences.new ≡ length differences.old) × (length value.new ≡ length value.old)
+        × (length buffer.new ≡ length buffer.old) × (length out.new ≡ length out.old)) }
 {
     let mut nodes = [node; NODES];
     let mut clients = [client; CLIENTS];

@@ -1,5 +1,5 @@
 // The lines of standard input.
-ghost use Rattle.std.specs.Prelude.{◌≡◌, ltb, ◌-◌, IfOk};
+ghost use Rattle.std.specs.Prelude.{◌≡◌, ltb, ◌-◌, length, IfOk, OnErr};
 
 use crate::{Player, Turn};
 use std::io::{Read, Result};
@@ -68,7 +68,8 @@ impl Player {
         buffer: &mut [u8],
         value: &mut [u8],
     ) -> Result<Turn>
-        ensures { IfOk result (λ turn. turn.player.left ≡ self.left - 1) }
+        ensures left { IfOk result (λ turn. turn.player.left ≡ self.left - 1) }
+        ensures err { OnErr result ((length buffer.new ≡ length buffer.old) × (length value.new ≡ length value.old)) }
     {
         let left = one_less(self.left);
         let volume = self.volume;

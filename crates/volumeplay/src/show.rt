@@ -1,5 +1,5 @@
 // What is printed of a line: `ANSWER RETURNED`, or `0 STATE`.
-ghost use Rattle.std.specs.Prelude.{◌≤◌, IfOk};
+ghost use Rattle.std.specs.Prelude.{◌≡◌, ◌≤◌, length, IfOk, OnErr};
 
 use crate::stripes::{ClientsTaken, NodesTaken};
 use crate::{Player, Turn};
@@ -104,7 +104,8 @@ impl Turn {
         differences: &[u8],
         out: &mut [u8],
     ) -> Result<Player>
-        ensures { IfOk result (λ player. player.left ≤ self.player.left) }
+        ensures left { IfOk result (λ player. player.left ≤ self.player.left) }
+        ensures err { OnErr result (length out.new ≡ length out.old) }
     {
         let player = self.player;
         let line = self.line;
