@@ -1,25 +1,22 @@
 -- An add's tests by the code's, and what it answers. Assumes nothing.
+use Rattle.std.specs.Prelude.{Option, None, Some, Ok, Err}
 use mathlib.Core.Path.{◌≡◌, refl, sym, ap, ◌∙◌}
 use mathlib.Core.Bool.{Bool, true, false, cond, ◌&&◌, not}
 use mathlib.Core.List.{[]}
-use mathlib.Core.Option.{Option, none, some}
 use Prim.Native.Nat.{ℕ}
 use lib.Dec.{leb, ltb}
 use lib.ListN.{length}
 use Rattle.code.specs.Decode.{has}
 use Rattle.code.specs.View.{node_set_of}
-use Rattle.entries.specs.declared.Previous.{Previous}
-use Rattle.entries.specs.declared.Previous.TheVariants.{Nothing, Id}
+use Rattle.entries.specs.declared.WriteId.{WriteId}
 use Rattle.entries.specs.Entries.{entry_limit, is_listed}
 use Rattle.records.specs.declared.Sizes.{Sizes}
 use Rattle.records.specs.declared.Write.{Write}
-use Rattle.records.specs.declared.NodeAnswer.{NodeAnswer}
-use Rattle.records.specs.declared.NodeAnswer.TheVariants.{Accepted, Refused}
 use Rattle.records.specs.declared.Refusal.{Refusal}
 use Rattle.records.specs.declared.Refusal.TheVariants.{OutOfPhase, OldEpoch, BeforePrevious, Full}
 use Rattle.records.specs.Sizes.{is_redundant, is_client}
 use Rattle.records.specs.Node.{Node, takes_add}
-use Rattle.records.specs.NodeSteps.{refusing, enter_answer, after_previous, add_answer}
+use Rattle.records.specs.NodeSteps.{NodeAnswer, refusing, enter_answer, after_previous, add_answer}
 use Rattle.records.specs.Client.{Client}
 use Rattle.records.specs.Client as Client
 use Rattle.records.specs.View.{write_of}
@@ -36,7 +33,7 @@ said true = refl
 said false = refl
 
 -- an add that its tests let through is accepted
-pub added-zero : (z : Sizes) (c j : ℕ) (l : Local) → add_tests z c j l.node l.client ≡ none → number (added z c j l.client.hand l).answer ≡ 0
+pub added-zero : (z : Sizes) (c j : ℕ) (l : Local) → add_tests z c j l.node l.client ≡ None → number (added z c j l.client.hand l).answer ≡ 0
 added-zero z c j l e = by l.client.hand refl
   where
     zero : (b : Bool) → number (cond b Done Added) ≡ 0
@@ -44,8 +41,8 @@ added-zero z c j l e = by l.client.hand refl
     zero false = refl
 
     by : (hand : Option Client.Write) → l.client.hand ≡ hand → number (added z c j hand l).answer ≡ 0
-    by none h = add-empty z c j l.node l.client h e
-    by (some w) h = zero (completes z j w)
+    by None h = add-empty z c j l.node l.client h e
+    by (Some w) h = zero (completes z j w)
 
 -- ---- the chain of tests
 
@@ -55,34 +52,34 @@ module _ (z : Sizes) (c j : ℕ) (x : Node) (y : Client) where
     unfolding add_tests
     add-in = rw range
 
-    pub add-without : y.hand ≡ none → add_tests z c j x y ≡ some OutOfPhase
+    pub add-without : y.hand ≡ None → add_tests z c j x y ≡ Some OutOfPhase
     unfolding write_tests
     add-without e = add-in ∙ rw e
 
 module _ (j : ℕ) (w : Write) (x : Node) where
-  pub add_done : has (node_set_of w.done) j ≡ true → write_tests j (some (write_of w)) x ≡ some OutOfPhase
+  pub add_done : has (node_set_of w.done) j ≡ true → write_tests j (Some (write_of w)) x ≡ Some OutOfPhase
   unfolding write_tests
   add_done e = rw e
 
   -- ---- the node's own answer is the rest of the chain
 
   abbrev told : NodeAnswer → Option Refusal
-  told Accepted = none
-  told (Refused why) = some why
+  told (Ok tt) = None
+  told (Err why) = Some why
 
   told-test : (t : Bool) (why : Refusal) (a : NodeAnswer) → told (refusing t why a) ≡ test t why (told a)
   told-test true why a = refl
   told-test false why a = refl
 
   abbrev room : Option Refusal
-  room = test (leb entry_limit (length x.entries)) Full none
+  room = test (leb entry_limit (length x.entries)) Full None
 
   told-room : told (enter_answer x) ≡ room
-  told-room = told-test (leb entry_limit (length x.entries)) Full Accepted
+  told-room = told-test (leb entry_limit (length x.entries)) Full (Ok tt)
 
-  told-previous : (p : Previous) → told (after_previous p x (enter_answer x)) ≡ previous_test p x room
-  told-previous Nothing = told-room
-  told-previous (Id id) =
+  told-previous : (p : Option WriteId) → told (after_previous p x (enter_answer x)) ≡ previous_test p x room
+  told-previous None = told-room
+  told-previous (Some id) =
       told-test (not (is_listed id x.entries)) (BeforePrevious id) (enter_answer x)
       ∙ ap (test (not (is_listed id x.entries)) (BeforePrevious id)) told-room
 
@@ -95,6 +92,6 @@ module _ (j : ℕ) (w : Write) (x : Node) where
       ∙ ap (test (ltb w.epoch.0 x.epoch.0) (OldEpoch x.epoch)) (told-previous w.previous))
 
   module _ (todo : has (node_set_of w.done) j ≡ false) where
-    pub add-told : (a : NodeAnswer) → a ≡ add_answer w x → write_tests j (some (write_of w)) x ≡ told a
+    pub add-told : (a : NodeAnswer) → a ≡ add_answer w x → write_tests j (Some (write_of w)) x ≡ told a
     unfolding write_tests
     add-told a e = rw todo (sym (ap told e ∙ told-node))

@@ -1,7 +1,7 @@
 -- What an add within the limits has: of its write in hand, and of its tables. Assumes nothing.
+use Rattle.std.specs.Prelude.{Some}
 use mathlib.Core.Path.{◌≡◌}
 use mathlib.Core.Bool.{true, ◌&&◌}
-use mathlib.Core.Option.{some}
 use Prim.Native.Nat.{ℕ, ◌+◌, ◌-◌, ◌*◌, ◌≤◌, ◌<◌}
 use native.Mathlib.Omega.{arith}
 use lib.Dec.{ltb}
@@ -13,7 +13,6 @@ use Rattle.entries.specs.View.{ids_of}
 use Rattle.entries.proofs.Lists.{ids-count}
 use Rattle.records.specs.declared.Sizes.{Sizes}
 use Rattle.records.specs.declared.Write.{Write}
-use Rattle.records.specs.declared.Hand.TheVariants.{Holding}
 use Rattle.records.specs.declared.ClientRecord.{ClientRecord}
 use Rattle.records.specs.Sizes.{sizes_within, is_node, is_redundant, is_client}
 use Rattle.records.specs.Client.{hand_within, client_within}
@@ -23,8 +22,8 @@ use Rattle.machine.specs.Writing.{records_fit, tables_fit}
 use Rattle.limits.proofs.Limits.{range-low, block_in_lem}
 use Rattle.adding.specs.Adding.{add_within}
 
-module _ (z : Sizes) (client : ClientRecord) (w : Write) (held : client.hand ≡ Holding w) (e : client_within z (client_of client) ≡ true) where
-  hand : hand_within z (some (write_of w)) (ids_of client.finished) ≡ true
+module _ (z : Sizes) (client : ClientRecord) (w : Write) (held : client.hand ≡ Some w) (e : client_within z (client_of client) ≡ true) where
+  hand : hand_within z (Some (write_of w)) (ids_of client.finished) ≡ true
   unfolding client_within
   hand = rw held at (and_left (hand_within z (client_of client).hand (client_of client).finished) _ e)
 

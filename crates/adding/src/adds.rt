@@ -1,6 +1,5 @@
 // Add: a client's difference, times the coefficient, into a redundant block, and the id of its write at that node.
-ghost use Rattle.std.specs.Prelude.{true, cond, ◌&&◌, ◌||◌, List, [], ◌≡◌, ℕ, ◌+◌, ◌-◌, ◌*◌, ◌≤◌, ◌<◌, eqb, leb, length};
-ghost use Rattle.std.proofs.Math.Option.{some};
+ghost use Rattle.std.specs.Prelude.{true, cond, ◌&&◌, ◌||◌, List, [], ◌≡◌, ℕ, ◌+◌, ◌-◌, ◌*◌, ◌≤◌, ◌<◌, eqb, leb, length, Some};
 ghost use Rattle.blocks.specs.Blocks.{block, set_block, add_times};
 ghost use Rattle.code.specs.Code.{coefficient};
 ghost use Rattle.code.specs.Decode.{has, each, including};
@@ -18,7 +17,7 @@ ghost use Rattle.calls.specs.Stepping.{StepsRecords};
 use calls::{Answer, AtNode, OfClient};
 use code::NodeSet;
 use limits::tables::are_tables;
-use records::{ClientRecord, Hand, NodeAnswer, NodeRecord, Refusal, Sizes, Write};
+use records::{ClientRecord, NodeRecord, Refusal, Sizes, Write};
 
 // Whether an add's sizes, records and tables are within the limits.
 fn is_within(
@@ -70,7 +69,7 @@ fn join(z: Sizes, j: u8, write: Write, client: ClientRecord) -> OfClient
     ensures answer { result.answer ≡ cond (is_complete z write.id.position (including j (node_set_of write.done))) Answer.Done Answer.Added }
     ensures client { client_of result.client ≡ cond (is_complete z write.id.position (including j (node_set_of write.done)))
         (finished_write write.id (client_of client))
-        (with_hand (some (with_done (write_of write) (including j (node_set_of write.done)))) (client_of client)) }
+        (with_hand (Some (with_done (write_of write) (including j (node_set_of write.done)))) (client_of client)) }
 {
     let done = write.done;
     if is_complete(z, write.id.position, done.with(j as usize)) {
@@ -100,7 +99,7 @@ fn add_bytes(b: usize, c: u8, j: u8, i: u8, blocks: &mut [u8], differences: &[u8
 
 // The write in hand at node j, if it is not done there and the node takes it: the id entered, and j joined.
 fn step_write(z: Sizes, j: u8, write: Write, node: NodeRecord, client: ClientRecord) -> AtNode
-    requires { (client.hand ≡ Hand.Holding write) × (z.k ≤ z.n) × (node.entries.count ≤ entry_limit) × (client.finished.count < finished_limit) }
+    requires { (client.hand ≡ Some write) × (z.k ≤ z.n) × (node.entries.count ≤ entry_limit) × (client.finished.count < finished_limit) }
     ensures { (c : ℕ) (blocks differences : List ℕ) → StepsRecords
         (Writing.write_tests j (client_of client).hand (node_of node))
         (added z c j (client_of client).hand (local (node_of node) (client_of client) blocks differences))
@@ -112,7 +111,7 @@ fn step_write(z: Sizes, j: u8, write: Write, node: NodeRecord, client: ClientRec
     }
     let step = node.add(write);
     let answer = step.answer;
-    if let NodeAnswer::Refused(why) = answer {
+    if let Err(why) = answer {
         return AtNode::refused(node, client, why);
     }
     let entered = step.node;
@@ -139,8 +138,8 @@ fn step_records(z: Sizes, c: u8, j: u8, node: NodeRecord, client: ClientRecord) 
     }
     let hand = client.hand;
     match hand {
-        Hand::Empty => AtNode::refused(node, client, Refusal::OutOfPhase),
-        Hand::Holding(write) => step_write(z, j, write, node, client),
+        None => AtNode::refused(node, client, Refusal::OutOfPhase),
+        Some(write) => step_write(z, j, write, node, client),
     }
 }
 
@@ -169,7 +168,7 @@ pub fn add(
     }
     let b = z.b;
     let hand = client.hand;
-    if let Hand::Holding(write) = hand {
+    if let Some(write) = hand {
         add_bytes(b, c, j, write.id.position, blocks, differences);
     }
     stepped

@@ -1,7 +1,7 @@
 // What each kind of work begins with, in the largest stripe of 8 clients.
 use crate::runs::{VOLUME_CLIENTS, VOLUME_NODES, run, run_all, run_one};
 use crate::{Run, Work};
-use entries::{Entries, Epoch, Previous, WriteId, WriteNumber};
+use entries::{Entries, Epoch, WriteId, WriteNumber};
 use records::{ClientRecord, NodeRecord, Sizes, Write};
 use step::Clients;
 use stripe::Nodes;
@@ -13,7 +13,7 @@ fn writing_client(c: u8) -> ClientRecord {
         position: 1,
         number: WriteNumber(0),
     };
-    ClientRecord::fresh().begin(Write::new(id, Previous::Nothing, Epoch(0)))
+    ClientRecord::fresh().begin(Write::new(id, None, Epoch(0)))
 }
 
 // All clients with such a write.

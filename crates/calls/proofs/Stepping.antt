@@ -1,9 +1,9 @@
 -- A swap or an add from its step of the two records: refused as they are, or accepted with the tables moved. Assumes nothing.
+use Rattle.std.specs.Prelude.{Option, None, Some}
 use mathlib.Core.Path.{◌≡◌, refl, ap, ◌∙◌}
 use mathlib.Core.Logic.{◌≢◌}
 use mathlib.Core.Bool.{false}
 use mathlib.Core.List.{List, []}
-use mathlib.Core.Option.{Option, none, some}
 use Prim.Native.Nat.{ℕ}
 use native.Mathlib.Omega.{arith}
 use Rattle.records.specs.declared.NodeRecord.{NodeRecord}
@@ -24,10 +24,10 @@ use Rattle.calls.specs.Stepping.{StepsRecords}
 
 -- the returns of the step: refused by the tests, and past them
 module _ {tests : Option Refusal} {effect : Outcome Local} {node : NodeRecord} {client : ClientRecord} {r : AtNode} where
-  pub steps-refused : {why : Refusal} → tests ≡ some why → r ≡ record { answer = Refused why; node = node; client = client } → StepsRecords tests effect node client r
+  pub steps-refused : {why : Refusal} → tests ≡ Some why → r ≡ record { answer = Refused why; node = node; client = client } → StepsRecords tests effect node client r
   steps-refused q e = record { by = rw q e }
 
-  pub steps-made : tests ≡ none → answer_of r.answer [] ≡ effect.answer → node_of r.node ≡ effect.after.node → client_of r.client ≡ effect.after.client
+  pub steps-made : tests ≡ None → answer_of r.answer [] ≡ effect.answer → node_of r.node ≡ effect.after.node → client_of r.client ≡ effect.after.client
       → StepsRecords tests effect node client r
   steps-made q a x y = record { by = rw q (a, (x, y)) }
 
@@ -45,21 +45,21 @@ accepted-changes (Told finding) e = refl
 accepted-changes (Refused why) e = never-zero why refl e
 
 module _ {effect : Outcome Local} {node : NodeRecord} {client : ClientRecord} {r : AtNode} where
-  pub passed : (tests : Option Refusal) → StepsRecords tests effect node client r → number (answer_of r.answer []) ≡ 0 → tests ≡ none
-  passed none s e = refl
-  passed (some why) s e = never-zero why (ap (λ r. number (answer_of r.answer [])) s.by) e
+  pub passed : (tests : Option Refusal) → StepsRecords tests effect node client r → number (answer_of r.answer []) ≡ 0 → tests ≡ None
+  passed None s e = refl
+  passed (Some why) s e = never-zero why (ap (λ r. number (answer_of r.answer [])) s.by) e
 
-  pub call-refused : (blocks differences : List ℕ) (tests : Option Refusal) → (tests ≡ none → number effect.answer ≡ 0) → StepsRecords tests effect node client r
+  pub call-refused : (blocks differences : List ℕ) (tests : Option Refusal) → (tests ≡ None → number effect.answer ≡ 0) → StepsRecords tests effect node client r
       → number (answer_of r.answer []) ≢ 0
       → Meets (unless tests (local (node_of node) (client_of client) blocks differences) effect) r.answer []
       (local (node_of r.node) (client_of r.client) blocks differences) ((r.node ≡ node) × (r.client ≡ client))
-  call-refused blocks differences none zero s ne = absurd (ne (ap number s.by.0 ∙ zero refl))
-  call-refused blocks differences (some why) zero s ne = refused-at-node s.by refl
+  call-refused blocks differences None zero s ne = absurd (ne (ap number s.by.0 ∙ zero refl))
+  call-refused blocks differences (Some why) zero s ne = refused-at-node s.by refl
 
   pub call-accepted : (blocks differences : List ℕ) (tests : Option Refusal) → StepsRecords tests effect node client r → number (answer_of r.answer []) ≡ 0
       → {t u : List ℕ} → t ≡ effect.after.blocks → u ≡ effect.after.differences
       → Meets (unless tests (local (node_of node) (client_of client) blocks differences) effect) r.answer []
       (local (node_of r.node) (client_of r.client) t u) ((r.node ≡ node) × (r.client ≡ client))
-  call-accepted blocks differences none s e t u =
+  call-accepted blocks differences None s e t u =
       record { said = rw (s.by.0, s.by.1.0, s.by.1.1, t, u); left = left-free r.answer _ (accepted-changes r.answer e) }
-  call-accepted blocks differences (some why) s e t u = never-zero why (ap (λ r. number (answer_of r.answer [])) s.by) e
+  call-accepted blocks differences (Some why) s e t u = never-zero why (ap (λ r. number (answer_of r.answer [])) s.by) e

@@ -1,4 +1,5 @@
 -- What the loops over an array with a count cite: a list by its places (`list_of`) after one place more, for each kind of loop. Assumes nothing.
+use Rattle.std.specs.Prelude.{Option, None, Some}
 use mathlib.Core.Path.{◌≡◌, refl, sym, ap, ap₂, ◌∙◌}
 use mathlib.Core.Logic.{◌⊎◌, inl, inr}
 use mathlib.Core.Bool.{Bool, true, false, cond, ◌&&◌, ◌||◌, not, and_assoc, or_assoc, or-true, or-false}
@@ -16,8 +17,6 @@ use Rattle.entries.specs.declared.WriteId.{WriteId}
 use Rattle.entries.specs.declared.Entry as Declared
 use Rattle.entries.specs.declared.Ids.{Ids}
 use Rattle.entries.specs.declared.Entries.{Entries}
-use Rattle.entries.specs.declared.Previous.{Previous}
-use Rattle.entries.specs.declared.Previous.TheVariants.{Nothing, Id}
 use Rattle.entries.specs.declared.write_ids.IdTest.{IdTest}
 use Rattle.entries.specs.declared.node_entries.EntryTest.{EntryTest}
 use Rattle.entries.specs.declared.node_entries.EntryChange.{EntryChange}
@@ -233,11 +232,11 @@ module _ {old : List Declared.Entry} {n : ℕ} where
 
 -- ---- a loop that looks for the last recent id, from the end
 
-last-last : (p : Previous) (es : List Entry) (e : Entry)
-    → last_recent_after p (es ++ (e ∷ [])) ≡ cond (is_recent e) (Id e.id) (last_recent_after p es)
+last-last : (p : Option WriteId) (es : List Entry) (e : Entry)
+    → last_recent_after p (es ++ (e ∷ [])) ≡ cond (is_recent e) (Some e.id) (last_recent_after p es)
 unfolding last_recent_after
 last-last p [] e = refl
-last-last p (x ∷ es) e = last-last (cond (is_recent x) (Id x.id) p) es e
+last-last p (x ∷ es) e = last-last (cond (is_recent x) (Some x.id) p) es e
 
 -- none of the n entries is recent after the first i
 pub record Lasting (at : ℕ → Entry) (i n : ℕ) : Type 0 where
@@ -250,17 +249,17 @@ module _ {at : ℕ → Entry} {n : ℕ} where
 
   module _ {i : ℕ} (q : Lasting at i n) (h : 0 < i) where
     -- by the last of the first i
-    turn : last_recent (list_of n at) ≡ cond (is_recent (at (i - 1))) (Id (at (i - 1)).id) (last_recent (list_of (i - 1) at))
+    turn : last_recent (list_of n at) ≡ cond (is_recent (at (i - 1))) (Some (at (i - 1)).id) (last_recent (list_of (i - 1) at))
     turn =
         let e : i ≡ (i - 1) + 1 = omega arith in
-        q.is ∙ ap (λ l. last_recent (list_of l at)) e ∙ ap last_recent (list_of-more (i - 1) at) ∙ last-last Nothing (list_of (i - 1) at) (at (i - 1))
+        q.is ∙ ap (λ l. last_recent (list_of l at)) e ∙ ap last_recent (list_of-more (i - 1) at) ∙ last-last None (list_of (i - 1) at) (at (i - 1))
 
-    pub last-hit : is_recent (at (i - 1)) ≡ true → Id (at (i - 1)).id ≡ last_recent (list_of n at)
+    pub last-hit : is_recent (at (i - 1)) ≡ true → Some (at (i - 1)).id ≡ last_recent (list_of n at)
     last-hit e = sym (turn ∙ rw e)
 
     pub last_on : is_recent (at (i - 1)) ≡ false → Lasting at (i - 1) n
     last_on e = record { within = omega (arith, q.within); is = turn ∙ rw e }
 
-  pub last_end : {i : ℕ} → Lasting at i n → i ≤ 0 → Nothing ≡ last_recent (list_of n at)
+  pub last_end : {i : ℕ} → Lasting at i n → i ≤ 0 → None ≡ last_recent (list_of n at)
   unfolding list_of last_recent_after
   last_end {i} q h = let e : i ≡ 0 = omega arith in sym (q.is ∙ ap (λ l. last_recent (list_of l at)) e)

@@ -1,13 +1,11 @@
 -- Document 01, "Records" and "Writing": a node's entries, each a write id marked recent or old, in order of arrival; the limits of ids and lists.
 -- Change request C-12: ages are counted in ticks.
 -- Assumes nothing.
-use Rattle.std.specs.Prelude.{Bool, true, false, cond, ◌&&◌, ◌||◌, not, List, [], ◌∷◌, ◌++◌, ℕ, ◌+◌, eqb, leb, ltb}
+use Rattle.std.specs.Prelude.{Bool, true, false, cond, ◌&&◌, ◌||◌, not, List, [], ◌∷◌, ◌++◌, ℕ, ◌+◌, eqb, leb, ltb, Option, None, Some}
 use Rattle.entries.specs.declared.WriteId.{WriteId}
 use Rattle.entries.specs.declared.Age.{Age}
 use Rattle.entries.specs.declared.Mark.{Mark}
 use Rattle.entries.specs.declared.Mark.TheVariants.{Recent, Old}
-use Rattle.entries.specs.declared.Previous.{Previous}
-use Rattle.entries.specs.declared.Previous.TheVariants.{Nothing, Id}
 
 -- "up to 16 entries, each a write id marked recent or old"; "An entry's age"
 pub record Entry : Type 0 where
@@ -62,17 +60,17 @@ is_old_in x [] = false
 is_old_in x (e ∷ es) = (not (is_recent e) && same_id e.id x) || is_old_in x es
 
 -- "Previous id = last recent id there, or none"
-unfoldable pub last_recent_after : Previous → List Entry → Previous
+unfoldable pub last_recent_after : Option WriteId → List Entry → Option WriteId
 last_recent_after p [] = p
-last_recent_after p (e ∷ es) = last_recent_after (cond (is_recent e) (Id e.id) p) es
+last_recent_after p (e ∷ es) = last_recent_after (cond (is_recent e) (Some e.id) p) es
 
-abbrev pub last_recent : List Entry → Previous
-last_recent es = last_recent_after Nothing es
+abbrev pub last_recent : List Entry → Option WriteId
+last_recent es = last_recent_after None es
 
 -- "there is no previous id, or it isn't recent there"
-abbrev pub previous_recent : Previous → List Entry → Bool
-previous_recent Nothing es = false
-previous_recent (Id x) es = is_recent_in x es
+abbrev pub previous_recent : Option WriteId → List Entry → Bool
+previous_recent None es = false
+previous_recent (Some x) es = is_recent_in x es
 
 -- C-12: "A tick call adds 1 to the age of each recent entry .., up to 255". An old one keeps the age that it has
 abbrev pub older : Age → Age
@@ -116,9 +114,9 @@ is_up_to n x = leb 1 x && leb x n
 unfoldable pub id_within : ℕ → ℕ → WriteId → Bool
 id_within k m x = is_up_to m x.client && (is_up_to k x.position && ltb x.number.0 write_limit)
 
-abbrev pub previous_within : ℕ → ℕ → Previous → Bool
-previous_within k m Nothing = true
-previous_within k m (Id x) = id_within k m x
+abbrev pub previous_within : ℕ → ℕ → Option WriteId → Bool
+previous_within k m None = true
+previous_within k m (Some x) = id_within k m x
 
 unfoldable pub ids_within : ℕ → ℕ → List WriteId → Bool
 ids_within k m [] = true

@@ -39,12 +39,6 @@ pub struct WriteId {
 }
 
 #[derive(Clone, Copy)]
-pub enum Previous {
-    Nothing,
-    Id(WriteId),
-}
-
-#[derive(Clone, Copy)]
 pub enum Mark {
     Recent,
     Old,

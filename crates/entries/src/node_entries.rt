@@ -4,7 +4,7 @@ ghost use Rattle.entries.specs.Entries.{entry_limit, finished_limit, is_recent, 
 ghost use Rattle.entries.specs.Lists.{passes, some_passes, is_outside, marked_entry, is_kept, offered, changed};
 ghost use Rattle.entries.specs.View.{ids_of, entry_of, entries_of};
 
-use crate::{Age, Entries, Entry, Ids, Mark, Previous, WriteId};
+use crate::{Age, Entries, Entry, Ids, Mark, WriteId};
 
 // What is asked of an entry.
 #[derive(Clone, Copy)]
@@ -173,14 +173,11 @@ impl Entries {
         self.any(EntryTest::RecentOf(id))
     }
 
-    pub fn has_recent_previous(self, p: Previous) -> bool
+    pub fn has_recent_previous(self, p: Option<WriteId>) -> bool
         requires { self.count ≤ entry_limit }
         ensures { result ≡ previous_recent p (entries_of self) }
     {
-        match p {
-            Previous::Nothing => false,
-            Previous::Id(id) => self.has_recent(id),
-        }
+        p.is_some_and(|id| self.has_recent(id))
     }
 
     pub fn has_old(self, id: WriteId) -> bool
@@ -222,7 +219,7 @@ impl Entries {
     }
 
     // Searched from the end: the entry that came last is nearly always recent.
-    pub fn last_recent(self) -> Previous
+    pub fn last_recent(self) -> Option<WriteId>
         requires { self.count ≤ entry_limit }
         ensures { result ≡ last_recent (entries_of self) }
     {
@@ -232,10 +229,10 @@ impl Entries {
             i -= 1;
             let e = items[i];
             if e.is_recent() {
-                return Previous::Id(e.id());
+                return Some(e.id());
             }
         }
-        Previous::Nothing
+        None
     }
 
     // The list with what the change leaves of one entry more.

@@ -1,10 +1,10 @@
 // Write ids, and a client's list of them.
 ghost use Rattle.std.specs.Prelude.{◌&&◌, [], ◌∷◌, ◌++◌, ◌≡◌, ◌<◌, ◌≤◌, leb, length};
-ghost use Rattle.entries.specs.Entries.{finished_limit, same_id, is_in, id_within, ids_within, previous_within};
+ghost use Rattle.entries.specs.Entries.{finished_limit, same_id, is_in, id_within, ids_within};
 ghost use Rattle.entries.specs.Lists.{id_passes, some_id_passes};
 ghost use Rattle.entries.specs.View.{ids_of};
 
-use crate::{Ids, Previous, WriteId, WriteNumber, is_up_to};
+use crate::{Ids, WriteId, WriteNumber, is_up_to};
 
 // What is asked of an id: whether it is that one; whether it is outside the limits of k positions and m clients.
 #[derive(Clone, Copy)]
@@ -43,17 +43,6 @@ impl WriteId {
         match test {
             IdTest::Is(id) => self.same(id),
             IdTest::Outside(k, m) => !self.is_within(k, m),
-        }
-    }
-}
-
-impl Previous {
-    pub fn is_within(self, k: usize, m: usize) -> bool
-        ensures { result ≡ previous_within k m self }
-    {
-        match self {
-            Previous::Nothing => true,
-            Previous::Id(id) => id.is_within(k, m),
         }
     }
 }

@@ -5,7 +5,7 @@ ghost use Rattle.rebuild.specs.Promises.{Steps};
 use calls::Answer;
 use rebuild::Stepped;
 use rebuild::admission::entrance;
-use records::{ClientRecord, NodeAnswer, NodeRecord, Sizes};
+use records::{ClientRecord, NodeRecord, Sizes};
 use stripe::{Change, Seen};
 
 // "all that it held becomes EXP; hand, rebuild, lists and round are empty; its write number stays"
@@ -13,8 +13,8 @@ pub fn stop(z: Sizes, c: u8, seen: Seen, node: NodeRecord, client: ClientRecord)
     ensures { Steps Failure.stop z c seen node client result }
 {
     match entrance(z, c, seen, client) {
-        NodeAnswer::Refused(why) => Stepped::refused(node, client, why),
-        NodeAnswer::Accepted => Stepped {
+        Err(why) => Stepped::refused(node, client, why),
+        Ok(()) => Stepped {
             answer: Answer::Accepted,
             node: node,
             client: client.stop(),

@@ -1,7 +1,7 @@
 // A client's record as a text.
 use super::lists::{put_id, put_ids, put_set};
-use entries::Previous;
-use records::{ClientRecord, Hand};
+use entries::WriteId;
+use records::ClientRecord;
 use std::io::{Result, Write};
 use streams::output::{put, put_number, put_number_and, put_text};
 
@@ -9,11 +9,11 @@ fn put_previous<W: Write>(
     to: &mut W,
     out: &mut [u8],
     at: usize,
-    previous: Previous,
+    previous: Option<WriteId>,
 ) -> Result<usize> {
     match previous {
-        Previous::Nothing => put_text(to, out, at, b"none"),
-        Previous::Id(id) => put_id(to, out, at, id),
+        None => put_text(to, out, at, b"none"),
+        Some(id) => put_id(to, out, at, id),
     }
 }
 
@@ -36,10 +36,15 @@ fn put_write<W: Write>(
     put_set(to, out, at, done)
 }
 
-fn put_hand<W: Write>(to: &mut W, out: &mut [u8], at: usize, hand: Hand) -> Result<usize> {
+fn put_hand<W: Write>(
+    to: &mut W,
+    out: &mut [u8],
+    at: usize,
+    hand: Option<records::Write>,
+) -> Result<usize> {
     match hand {
-        Hand::Empty => put(to, out, at, b'-'),
-        Hand::Holding(write) => put_write(to, out, at, write),
+        None => put(to, out, at, b'-'),
+        Some(write) => put_write(to, out, at, write),
     }
 }
 

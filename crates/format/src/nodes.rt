@@ -2,7 +2,7 @@
 ghost use Rattle.std.specs.Prelude.{◌+◌, ◌-◌, ◌*◌, ◌≤◌, length};
 
 use super::lists::{put_entries, put_set};
-use records::{Holder, Lmode, NodeRecord, Opmode};
+use records::{Lmode, NodeRecord, Opmode};
 use std::io::{Result, Write};
 use streams::output::{put, put_bytes, put_number, put_number_and, put_text};
 
@@ -42,10 +42,15 @@ pub fn put_modes<W: Write>(
 }
 
 // The holder's number, 0 if there is none.
-fn put_holder<W: Write>(to: &mut W, out: &mut [u8], at: usize, holder: Holder) -> Result<usize> {
+fn put_holder<W: Write>(
+    to: &mut W,
+    out: &mut [u8],
+    at: usize,
+    holder: Option<u8>,
+) -> Result<usize> {
     match holder {
-        Holder::Nobody => put(to, out, at, b'0'),
-        Holder::Client(c) => put_number(to, out, at, c as u64),
+        None => put(to, out, at, b'0'),
+        Some(c) => put_number(to, out, at, c as u64),
     }
 }
 

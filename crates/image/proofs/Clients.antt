@@ -1,7 +1,7 @@
 -- A client record is read back from its bytes, from its parts. Assumes nothing.
+use Rattle.std.specs.Prelude.{Option, None, Some}
 use mathlib.Core.Bool.{true}
 use mathlib.Core.List.{List, [], ◌∷◌, map, append-nil, append_assoc}
-use mathlib.Core.Option.{Option, none, some}
 use mathlib.Core.Path.{◌≡◌, refl, sym, ap, ◌∙◌}
 use Prim.Native.Nat.{ℕ, suc, ◌*◌, ◌^◌, ◌≤◌, ◌<◌}
 use native.Mathlib.Omega.{arith}
@@ -16,8 +16,6 @@ use Rattle.code.specs.Bits.{bits_of, bits_from}
 use Rattle.code.specs.Decode.{set_within}
 use Rattle.code.proofs.SetBits.{bits_back, bits_below}
 use Rattle.entries.specs.declared.WriteId.{WriteId}
-use Rattle.entries.specs.declared.Previous.{Previous}
-use Rattle.entries.specs.declared.Previous.TheVariants.{Nothing, Id}
 use Rattle.entries.specs.Entries.{id_within, ids_within, previous_within}
 use Rattle.entries.specs.View.{blank_id}
 use Rattle.records.specs.declared.Sizes.{Sizes}
@@ -36,22 +34,22 @@ use Rattle.image.proofs.Rows.{flat, before, part_at, length-flat}
 
 -- ---- the write in hand
 
-previous-back : (k m : ℕ) (p : Previous) → previous_within k m p ≡ true → previous_from (previous_tag p ∷ id_bytes (previous_id p)) ≡ p
-previous-back k m Nothing h = refl
-previous-back k m (Id x) h = ap Id (id-back x (id-number k m x h))
+previous-back : (k m : ℕ) (p : Option WriteId) → previous_within k m p ≡ true → previous_from (previous_tag p ∷ id_bytes (previous_id p)) ≡ p
+previous-back k m None h = refl
+previous-back k m (Some x) h = ap Some (id-back x (id-number k m x h))
 
 pub length-hand_bytes : (h : Option Write) → length (hand_bytes h) ≡ 22
-length-hand_bytes none = refl
-length-hand_bytes (some w) = refl
+length-hand_bytes None = refl
+length-hand_bytes (Some w) = refl
 
 hand-back : (z : Sizes) (h : Option Write) (finished : List WriteId) → hand_within z h finished ≡ true → hand_whole h ≡ true → hand_from (hand_bytes h) ≡ h
-hand-back z none finished within whole = refl
-hand-back z (some w) finished within whole =
+hand-back z None finished within whole = refl
+hand-back z (Some w) finished within whole =
     let a = and_both (id_within z.k z.m w.id) _ within in
     let b = and_both (previous_within z.k z.m w.previous) _ a.1 in
     let c = and_both (leb w.epoch.0 1000000) _ b.1 in
     let epoch = leb-true w.epoch.0 1000000 c.0 in
-    ap some (λ i. record {
+    ap Some (λ i. record {
       id = id-back w.id (id-number z.k z.m w.id a.0) i;
       previous = previous-back z.k z.m w.previous b.0 i;
       epoch = record { 0 = word_back w.epoch.0 (omega (arith, epoch)) i };
@@ -133,8 +131,8 @@ module _ (x : Client) where
   part w at i l e q = rw flat-parts (part_at w at i parts l e q)
 
 pub few-finished : (z : Sizes) (h : Option Write) (finished : List WriteId) → hand_within z h finished ≡ true → length finished ≤ 8
-few-finished z none finished h = leb-true (length finished) 8 h
-few-finished z (some w) finished h =
+few-finished z None finished h = leb-true (length finished) 8 h
+few-finished z (Some w) finished h =
     let a = and_right (id_within z.k z.m w.id) _ h in
     let b = and_right (previous_within z.k z.m w.previous) _ a in
     let c = and_right (leb w.epoch.0 1000000) _ b in

@@ -1,4 +1,5 @@
 -- A node record is read back from its bytes, from its fields. Assumes nothing.
+use Rattle.std.specs.Prelude.{Option, None, Some}
 use mathlib.Core.Bool.{true}
 use mathlib.Core.List.{List}
 use mathlib.Core.Path.{◌≡◌, refl, ap}
@@ -24,7 +25,6 @@ use Rattle.records.specs.declared.Opmode.{Opmode}
 use Rattle.records.specs.declared.Opmode.TheVariants.{Norm, Recons, Init}
 use Rattle.records.specs.declared.Lmode.{Lmode}
 use Rattle.records.specs.declared.Lmode.TheVariants.{Unl, L0, L1, Exp}
-use Rattle.records.specs.declared.Holder.{Holder}
 use Rattle.records.specs.Node.{Node, holder_within, node_within}
 use Rattle.records.specs.Sizes.{is_client}
 use Rattle.image.specs.Records.{id_bytes, mark_byte, entry_bytes, opmode_byte, lmode_byte, holder_byte, entries_bytes, node_bytes}
@@ -85,17 +85,17 @@ lmode-back L0 = refl
 lmode-back L1 = refl
 lmode-back Exp = refl
 
-held_back : (z : Sizes) (c : ℕ) → is_client z c ≡ true → holder_from c ≡ Holder.Client c
+held_back : (z : Sizes) (c : ℕ) → is_client z c ≡ true → holder_from c ≡ Some c
 held_back z c h =
     let one = leb-true 1 c (and_left (leb 1 c) _ h) in
     rw (ne_eqb c 0 (λ e. omega (arith, one, e)))
 
-holder-back : (z : Sizes) (l : Lmode) (h : Holder) → holder_within z l h ≡ true → holder_from (holder_byte h) ≡ h
-holder-back z l Holder.Nobody w = refl
-holder-back z L0 (Holder.Client c) w = held_back z c w
-holder-back z L1 (Holder.Client c) w = held_back z c w
-holder-back z Unl (Holder.Client c) w = absurd (let n : ◌≡◌ {A = ℕ} 0 1 = cc in omega arith)
-holder-back z Exp (Holder.Client c) w = absurd (let n : ◌≡◌ {A = ℕ} 0 1 = cc in omega arith)
+holder-back : (z : Sizes) (l : Lmode) (h : Option ℕ) → holder_within z l h ≡ true → holder_from (holder_byte h) ≡ h
+holder-back z l None w = refl
+holder-back z L0 (Some c) w = held_back z c w
+holder-back z L1 (Some c) w = held_back z c w
+holder-back z Unl (Some c) w = absurd (let n : ◌≡◌ {A = ℕ} 0 1 = cc in omega arith)
+holder-back z Exp (Some c) w = absurd (let n : ◌≡◌ {A = ℕ} 0 1 = cc in omega arith)
 
 pub length-node_bytes : (x : Node) → length (node_bytes x) ≡ 140
 unfolding node_bytes

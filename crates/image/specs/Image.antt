@@ -1,6 +1,5 @@
 -- Change request C-13, docs/IMAGE.md: the image of a stripe, its length, and what may be written. Assumes nothing.
-use Rattle.std.specs.Prelude.{Bool, true, ◌&&◌, List, [], ◌∷◌, ◌++◌, ℕ, ◌+◌, ◌*◌, eqb, length, get_or}
-use Rattle.std.proofs.Math.Option.{Option, none, some}
+use Rattle.std.specs.Prelude.{Bool, true, ◌&&◌, List, [], ◌∷◌, ◌++◌, ℕ, ◌+◌, ◌*◌, eqb, length, get_or, Option, None, Some}
 use Rattle.octets.specs.Octets.{word_bytes, joined}
 use Rattle.basics.specs.Lists.{every_of}
 use Rattle.code.specs.Decode.{NodeSet}
@@ -64,8 +63,8 @@ abbrev pub node_whole : Node → Bool
 node_whole x = is_whole x.rset
 
 abbrev pub hand_whole : Option Write → Bool
-hand_whole none = true
-hand_whole (some w) = is_whole w.done
+hand_whole None = true
+hand_whole (Some w) = is_whole w.done
 
 abbrev pub rebuild_whole : Rebuild → Bool
 rebuild_whole NoRebuild = true

@@ -1,6 +1,5 @@
 -- What bytes are read as, by docs/IMAGE.md: a left inverse of the image (Claims). Assumes nothing.
-use Rattle.std.specs.Prelude.{cond, List, map, ℕ, ◌+◌, ◌*◌, eqb, get_or, drop}
-use Rattle.std.proofs.Math.Option.{Option, none, some}
+use Rattle.std.specs.Prelude.{cond, List, map, ℕ, ◌+◌, ◌*◌, eqb, get_or, drop, Option, None, Some}
 use Rattle.octets.specs.Octets.{word_at, piece, item}
 use Rattle.basics.specs.Lists.{list_of}
 use Rattle.code.specs.Bits.{bits_from}
@@ -8,8 +7,6 @@ use Rattle.code.specs.Decode.{NodeSet}
 use Rattle.entries.specs.declared.WriteId.{WriteId}
 use Rattle.entries.specs.declared.Mark.{Mark}
 use Rattle.entries.specs.declared.Mark.TheVariants.{Recent, Old}
-use Rattle.entries.specs.declared.Previous.{Previous}
-use Rattle.entries.specs.declared.Previous.TheVariants.{Nothing, Id}
 use Rattle.entries.specs.Entries.{Entry}
 use Rattle.machine.specs.Stripe.{Stripe}
 use Rattle.records.specs.declared.Sizes.{Sizes}
@@ -17,7 +14,6 @@ use Rattle.records.specs.declared.Opmode.{Opmode}
 use Rattle.records.specs.declared.Opmode.TheVariants.{Norm, Recons, Init}
 use Rattle.records.specs.declared.Lmode.{Lmode}
 use Rattle.records.specs.declared.Lmode.TheVariants.{Unl, L0, L1, Exp}
-use Rattle.records.specs.declared.Holder.{Holder}
 use Rattle.records.specs.Client.{Client, Write, Rebuild, NoRebuild, Locking, Picking, Writing, Settling, Unlocking}
 use Rattle.records.specs.Node.{Node}
 use Rattle.records.specs.Sizes.{node_limit}
@@ -57,8 +53,8 @@ opmode_from x = cond (eqb x 0) Norm (cond (eqb x 1) Recons Init)
 abbrev pub lmode_from : ℕ → Lmode
 lmode_from x = cond (eqb x 0) Unl (cond (eqb x 1) L0 (cond (eqb x 2) L1 Exp))
 
-abbrev pub holder_from : ℕ → Holder
-holder_from x = cond (eqb x 0) Holder.Nobody (Holder.Client x)
+abbrev pub holder_from : ℕ → Option ℕ
+holder_from x = cond (eqb x 0) None (Some x)
 
 -- a list by its count: the slots past it are not looked at
 unfoldable pub entries_from : List ℕ → List Entry
@@ -78,14 +74,14 @@ node_from b =
       entries = entries_from (drop 11 b);
     }
 
-abbrev pub previous_from : List ℕ → Previous
-previous_from b = cond (eqb (get_or b 0 0) 0) Nothing (Id (id_from (drop 1 b)))
+abbrev pub previous_from : List ℕ → Option WriteId
+previous_from b = cond (eqb (get_or b 0 0) 0) None (Some (id_from (drop 1 b)))
 
 abbrev pub write_from : List ℕ → Write
 write_from b = record { id = id_from b; previous = previous_from (drop 6 b); epoch = record { 0 = word_at b 13 }; done = set_from (word_at b 17) }
 
 abbrev pub hand_from : List ℕ → Option Write
-hand_from b = cond (eqb (get_or b 0 0) 0) none (some (write_from (drop 1 b)))
+hand_from b = cond (eqb (get_or b 0 0) 0) None (Some (write_from (drop 1 b)))
 
 abbrev pub phase_from : ℕ → ℕ → ℕ → ℕ → Rebuild
 phase_from phase node set epoch =

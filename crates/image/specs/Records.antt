@@ -1,21 +1,17 @@
 -- Change request C-13, docs/IMAGE.md: the bytes of a node record and of a client record. They are defined on what a record stands for (Node, Client), so
 -- that a slot without a meaning has no other content than the one here. Assumes nothing.
-use Rattle.std.specs.Prelude.{List, [], ◌∷◌, ◌++◌, map, ℕ, length, get_or, replicate}
-use Rattle.std.proofs.Math.Option.{Option, none, some}
+use Rattle.std.specs.Prelude.{List, [], ◌∷◌, ◌++◌, map, ℕ, length, get_or, replicate, Option, None, Some}
 use Rattle.octets.specs.Octets.{word_bytes, joined}
 use Rattle.code.specs.Bits.{bits_of}
 use Rattle.entries.specs.declared.WriteId.{WriteId}
 use Rattle.entries.specs.declared.Mark.{Mark}
 use Rattle.entries.specs.declared.Mark.TheVariants.{Recent, Old}
-use Rattle.entries.specs.declared.Previous.{Previous}
-use Rattle.entries.specs.declared.Previous.TheVariants.{Nothing, Id}
 use Rattle.entries.specs.Entries.{Entry, entry_limit, finished_limit, new_entry}
 use Rattle.entries.specs.View.{blank_id}
 use Rattle.records.specs.declared.Opmode.{Opmode}
 use Rattle.records.specs.declared.Opmode.TheVariants.{Norm, Recons, Init}
 use Rattle.records.specs.declared.Lmode.{Lmode}
 use Rattle.records.specs.declared.Lmode.TheVariants.{Unl, L0, L1, Exp}
-use Rattle.records.specs.declared.Holder.{Holder}
 use Rattle.records.specs.Node.{Node, is_exp}
 use Rattle.records.specs.Client.{Client, Write, Rebuild, NoRebuild, Locking, Picking, Writing, Settling, Unlocking}
 
@@ -46,9 +42,9 @@ lmode_byte L1 = 2
 lmode_byte Exp = 3
 
 -- "1 to m at L0 and L1; 0 at UNL and EXP"
-abbrev pub holder_byte : Holder → ℕ
-holder_byte Holder.Nobody = 0
-holder_byte (Holder.Client c) = c
+abbrev pub holder_byte : Option ℕ → ℕ
+holder_byte None = 0
+holder_byte (Some c) = c
 
 -- "count of entries" and 16 slots, "0 from the count on": a blank entry is 0 in every byte
 unfoldable pub entries_bytes : List Entry → List ℕ
@@ -64,13 +60,13 @@ node_bytes x =
     entries_bytes x.entries
 
 -- "0 none, 1 there is one"; "0 if there is none"
-abbrev pub previous_tag : Previous → ℕ
-previous_tag Nothing = 0
-previous_tag (Id x) = 1
+abbrev pub previous_tag : Option WriteId → ℕ
+previous_tag None = 0
+previous_tag (Some x) = 1
 
-abbrev pub previous_id : Previous → WriteId
-previous_id Nothing = blank_id
-previous_id (Id x) = x
+abbrev pub previous_id : Option WriteId → WriteId
+previous_id None = blank_id
+previous_id (Some x) = x
 
 -- "0 empty, 1 a write in hand"; "0 with an empty hand"
 abbrev pub write_bytes : Write → List ℕ
@@ -78,8 +74,8 @@ write_bytes w =
     id_bytes w.id ++ previous_tag w.previous ∷ id_bytes (previous_id w.previous) ++ word_bytes w.epoch.0 ++ word_bytes (bits_of w.done)
 
 abbrev pub hand_bytes : Option Write → List ℕ
-hand_bytes none = replicate 22 0
-hand_bytes (some w) = 1 ∷ write_bytes w
+hand_bytes None = replicate 22 0
+hand_bytes (Some w) = 1 ∷ write_bytes w
 
 -- a phase, its node, its set and its epoch, 10 bytes
 abbrev pub phase_bytes : ℕ → ℕ → ℕ → ℕ → List ℕ

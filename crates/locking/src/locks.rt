@@ -10,7 +10,7 @@ use calls::Answer;
 use code::NodeSet;
 use rebuild::Stepped;
 use rebuild::admission::{entrance, go_on};
-use records::{ClientRecord, NodeAnswer, NodeRecord, Phase, Refusal, Sizes};
+use records::{ClientRecord, NodeRecord, Phase, Refusal, Sizes};
 use stripe::{Change, Seen};
 
 // The next node, after x locks, of nodes of which those in `expired` were EXP. Refused, those of the x that c still holds get their old lmode.
@@ -30,12 +30,8 @@ fn lock_node(
     let step = node.lock(c);
     let answer = step.answer;
     match answer {
-        NodeAnswer::Accepted => Stepped::answered(
-            Answer::Accepted,
-            step.node,
-            client.lock(old, z.n),
-        ),
-        NodeAnswer::Refused(why) => Stepped {
+        Ok(()) => Stepped::answered(Answer::Accepted, step.node, client.lock(old, z.n)),
+        Err(why) => Stepped {
             answer: Answer::Refused(why),
             node: node,
             client: client.end_rebuild(),
@@ -61,8 +57,8 @@ pub fn lock(z: Sizes, c: u8, seen: Seen, node: NodeRecord, client: ClientRecord)
     ensures { Steps Rebuild.lock z c seen node client result }
 {
     match entrance(z, c, seen, client) {
-        NodeAnswer::Refused(why) => Stepped::refused(node, client, why),
-        NodeAnswer::Accepted => lock_in(z, c, seen, node, client),
+        Err(why) => Stepped::refused(node, client, why),
+        Ok(()) => lock_in(z, c, seen, node, client),
     }
 }
 
@@ -88,8 +84,8 @@ pub fn tighten(z: Sizes, c: u8, seen: Seen, node: NodeRecord, client: ClientReco
     ensures { Steps Rebuild.tighten z c seen node client result }
 {
     match entrance(z, c, seen, client) {
-        NodeAnswer::Refused(why) => Stepped::refused(node, client, why),
-        NodeAnswer::Accepted => tighten_in(z, c, seen, node, client),
+        Err(why) => Stepped::refused(node, client, why),
+        Ok(()) => tighten_in(z, c, seen, node, client),
     }
 }
 
@@ -109,7 +105,7 @@ pub fn unlock(z: Sizes, c: u8, seen: Seen, node: NodeRecord, client: ClientRecor
     ensures { Steps Rebuild.unlock z c seen node client result }
 {
     match entrance(z, c, seen, client) {
-        NodeAnswer::Refused(why) => Stepped::refused(node, client, why),
-        NodeAnswer::Accepted => unlock_in(z, c, seen, node, client),
+        Err(why) => Stepped::refused(node, client, why),
+        Ok(()) => unlock_in(z, c, seen, node, client),
     }
 }

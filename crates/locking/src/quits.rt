@@ -5,7 +5,7 @@ ghost use Rattle.rebuild.specs.Promises.{Steps};
 use calls::Answer;
 use rebuild::Stepped;
 use rebuild::admission::entrance;
-use records::{ClientRecord, NodeAnswer, NodeRecord, Refusal, Sizes};
+use records::{ClientRecord, NodeRecord, Refusal, Sizes};
 use stripe::{Change, Seen};
 
 // "accepted, and leaves what answer 10 leaves"
@@ -13,8 +13,8 @@ pub fn quit(z: Sizes, c: u8, seen: Seen, node: NodeRecord, client: ClientRecord)
     ensures { Steps Rebuild.quit z c seen node client result }
 {
     match entrance(z, c, seen, client) {
-        NodeAnswer::Refused(why) => Stepped::refused(node, client, why),
-        NodeAnswer::Accepted => {
+        Err(why) => Stepped::refused(node, client, why),
+        Ok(()) => {
             if client.has_rebuild() {
                 Stepped {
                     answer: Answer::Accepted,

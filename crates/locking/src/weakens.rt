@@ -7,7 +7,7 @@ ghost use Rattle.rebuild.specs.Promises.{Steps, Admitted, is_picking};
 use calls::Answer;
 use rebuild::admission::entrance;
 use rebuild::{Stepped, is_picking};
-use records::{ClientRecord, NodeAnswer, NodeRecord, Refusal, Sizes};
+use records::{ClientRecord, NodeRecord, Refusal, Sizes};
 use stripe::{Change, Seen};
 
 // A weaken in its phase.
@@ -35,8 +35,8 @@ pub fn weaken(z: Sizes, c: u8, seen: Seen, node: NodeRecord, client: ClientRecor
     ensures { Steps Rebuild.weaken z c seen node client result }
 {
     match entrance(z, c, seen, client) {
-        NodeAnswer::Refused(why) => Stepped::refused(node, client, why),
-        NodeAnswer::Accepted => {
+        Err(why) => Stepped::refused(node, client, why),
+        Ok(()) => {
             if is_picking(client) {
                 weaken_now(z, c, seen, node, client)
             } else {

@@ -1,8 +1,8 @@
 -- A stripe seen by columns: for each field of the records a function of the node's or the client's number. A column that a call leaves alone is the
 -- same term after it, so what is known of it needs no proof again. Blocks are abstract here. Assumes nothing.
+use Rattle.std.specs.Prelude.{Option}
 use mathlib.Core.Bool.{Bool, true, false}
 use mathlib.Core.List.{List}
-use mathlib.Core.Option.{Option}
 use Prim.Native.Nat.{ℕ}
 use lib.Dec.{eqb}
 use Rattle.code.specs.Decode.{NodeSet}

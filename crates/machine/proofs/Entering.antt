@@ -1,14 +1,13 @@
 -- A write's id enters a node's list and its value the node's block: what swap and add share. Assumes nothing.
+use Rattle.std.specs.Prelude.{Option, Some}
 use mathlib.Core.Path.{◌≡◌, refl, sym, ap, ◌∙◌}
 use mathlib.Core.Logic.{◌≢◌, ◌⊎◌, inl, inr}
 use mathlib.Core.Bool.{Bool, true, false, ◌||◌}
 use mathlib.Core.List.{List}
-use mathlib.Core.Option.{Option, some}
 use Prim.Native.Nat.{ℕ, suc, ◌≤◌}
 use native.Mathlib.Nat.{le_trans}
 use native.Mathlib.Omega.{arith}
 use Rattle.entries.specs.declared.WriteId.{WriteId}
-use Rattle.entries.specs.declared.Previous.TheVariants.{Id}
 use Rattle.entries.specs.Entries.{Entry, same_id, is_listed, is_recent_in, is_old_in, enter}
 use Rattle.records.specs.Node.{is_init, is_norm, is_recons}
 use Rattle.records.specs.Client.{Write}
@@ -222,7 +221,7 @@ module _ (O : Ops) where
             same = each-place (λ y. Spot O j y → G'.in_block j y ≡ G'.in_list j y) i (λ p. count G.in_block ∙ sym (count G.in_list))
                 (λ y d p. count-other G.in_block y d ∙ unwritten.same y p ∙ sym (count-other G.in_list y d));
             own = λ a. let (e, f) = E.newest a in ap (G'.in_block j) (sym e) ∙ count G.in_block ∙ sym f;
-            newest = λ a. let (e, f) = E.newest a in inl (last-enter id es ∙ ap Id (sym ((λ z. id_of' (sym e z) (f z)) ∙ E.is)));
+            newest = λ a. let (e, f) = E.newest a in inl (last-enter id es ∙ ap Some (sym ((λ z. id_of' (sym e z) (f z)) ∙ E.is)));
           };
           written = λ t. not-cut I T j (inl t);
           settled = λ t. not-cut I T j (inr t);
@@ -280,7 +279,7 @@ module _ (O : Ops) where
 
     -- all but what a client has
     pub entered-inv : (next : ℕ → ℕ) (hand : ℕ → Option Write) (difference : ℕ → B) (finished : ℕ → List WriteId) → IdsOk O G' h' next →
-        ((c : ℕ) (w : Write) → hand c ≡ some w → HandOk O G' h' s.op c (difference c) w) → ((c : ℕ) → FinishedOk O G' h' c (next c) (finished c)) →
+        ((c : ℕ) (w : Write) → hand c ≡ Some w → HandOk O G' h' s.op c (difference c) w) → ((c : ℕ) → FinishedOk O G' h' c (next c) (finished c)) →
         Inv O G' h' (set_blocks (upd s.block j b) (set_entries (upd s.entries j (enter id es))
         (set_nexts next (set_hands hand (set_differences difference (set_finished finished s))))))
     entered-inv next hand difference finished ids hands finished-lists =

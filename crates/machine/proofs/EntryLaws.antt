@@ -1,4 +1,5 @@
 -- What entering, a tick, discarding and marking do to the tests of a list of entries. Assumes nothing.
+use Rattle.std.specs.Prelude.{Option, None, Some}
 use mathlib.Core.Path.{◌≡◌, refl, sym, ap, ap₂, subst, ◌∙◌}
 use mathlib.Core.Logic.{◌⊎◌, inl, inr}
 use mathlib.Core.Bool.{Bool, true, false, cond, ◌&&◌, ◌||◌, not, or_assoc}
@@ -8,8 +9,6 @@ use borrow.Author.Tests.{not-true, eqb-true, eq-eqb}
 use Rattle.entries.specs.declared.Mark.{Mark}
 use Rattle.entries.specs.declared.Mark.TheVariants.{Recent, Old}
 use Rattle.entries.specs.declared.WriteId.{WriteId}
-use Rattle.entries.specs.declared.Previous.{Previous}
-use Rattle.entries.specs.declared.Previous.TheVariants.{Nothing, Id}
 use Rattle.entries.specs.Entries.{Entry, same_id, marked, is_recent, is_listed, is_recent_in, is_old_in, is_in, last_recent, last_recent_after, enter, aged, discard, mark_old}
 use Rattle.basics.proofs.Tests.{clash, and_both, or-one, or-false, or_left, or_right, bool_cases, cond_ind}
 
@@ -157,45 +156,45 @@ module _ (x : WriteId) where
       (λ q. ap (λ t. (is_recent a && same_id a.id x) || t) (recent-discard l es))
 
 ---- the last recent id
-last-after : (p : Previous) (y : WriteId) (es : List Entry) → last_recent_after p (enter y es) ≡ Id y
+last-after : (p : Option WriteId) (y : WriteId) (es : List Entry) → last_recent_after p (enter y es) ≡ Some y
 unfolding last_recent_after
 last-after p y [] = refl
-last-after p y (e ∷ es) = last-after (cond (is_recent e) (Id e.id) p) y es
+last-after p y (e ∷ es) = last-after (cond (is_recent e) (Some e.id) p) y es
 
-pub last-enter : (y : WriteId) (es : List Entry) → last_recent (enter y es) ≡ Id y
-last-enter y es = last-after Nothing y es
+pub last-enter : (y : WriteId) (es : List Entry) → last_recent (enter y es) ≡ Some y
+last-enter y es = last-after None y es
 
-aged-after : (p : Previous) (es : List Entry) → last_recent_after p (aged es) ≡ last_recent_after p es
+aged-after : (p : Option WriteId) (es : List Entry) → last_recent_after p (aged es) ≡ last_recent_after p es
 unfolding last_recent_after aged
 aged-after p [] = refl
-aged-after p (e ∷ es) = aged-after (cond (is_recent e) (Id e.id) p) es
+aged-after p (e ∷ es) = aged-after (cond (is_recent e) (Some e.id) p) es
 
 pub last-aged : (es : List Entry) → last_recent (aged es) ≡ last_recent es
-last-aged es = aged-after Nothing es
+last-aged es = aged-after None es
 
-discard-after : (l : List WriteId) (p : Previous) (es : List Entry) → last_recent_after p (discard l es) ≡ last_recent_after p es
+discard-after : (l : List WriteId) (p : Option WriteId) (es : List Entry) → last_recent_after p (discard l es) ≡ last_recent_after p es
 unfolding last_recent_after discard
 discard-after l p [] = refl
 discard-after l p (a ∷ es) =
-    cond_ind (λ t. last_recent_after p t ≡ last_recent_after (cond (is_recent a) (Id a.id) p) es) (not (is_recent a) && is_in a.id l) (discard l es) (a ∷ discard l es)
-    (λ q. rw (not-true (is_recent a) (and_both (not (is_recent a)) (is_in a.id l) q).0) (discard-after l p es)) (λ q. discard-after l (cond (is_recent a) (Id a.id) p) es)
+    cond_ind (λ t. last_recent_after p t ≡ last_recent_after (cond (is_recent a) (Some a.id) p) es) (not (is_recent a) && is_in a.id l) (discard l es) (a ∷ discard l es)
+    (λ q. rw (not-true (is_recent a) (and_both (not (is_recent a)) (is_in a.id l) q).0) (discard-after l p es)) (λ q. discard-after l (cond (is_recent a) (Some a.id) p) es)
 
 pub last-discard : (l : List WriteId) (es : List Entry) → last_recent (discard l es) ≡ last_recent es
-last-discard l es = discard-after l Nothing es
+last-discard l es = discard-after l None es
 
-the-id : {x y : WriteId} → Id x ≡ Id y → x ≡ y
+the-id : {x y : WriteId} → Some x ≡ Some y → x ≡ y
 the-id e = cc
 
 -- marking ids other than x leaves x the last, if it was: p and q are what was last before
-mark-after : (l : List WriteId) (x : WriteId) → is_in x l ≡ false → (p q : Previous) → (p ≡ Id x → q ≡ Id x) → (es : List Entry) → last_recent_after p es ≡ Id x
-    → last_recent_after q (mark_old l es) ≡ Id x
+mark-after : (l : List WriteId) (x : WriteId) → is_in x l ≡ false → (p q : Option WriteId) → (p ≡ Some x → q ≡ Some x) → (es : List Entry) → last_recent_after p es ≡ Some x
+    → last_recent_after q (mark_old l es) ≡ Some x
 unfolding last_recent_after mark_old
 mark-after l x f p q h [] = h
-mark-after l x f p q h (a ∷ es) = mark-after l x f (cond (is_recent a) (Id a.id) p) (cond (marked (cond (is_in a.id l) Old a.mark)) (Id a.id) q) (go a.mark) es
+mark-after l x f p q h (a ∷ es) = mark-after l x f (cond (is_recent a) (Some a.id) p) (cond (marked (cond (is_in a.id l) Old a.mark)) (Some a.id) q) (go a.mark) es
   where
-    go : (m : Mark) → cond (marked m) (Id a.id) p ≡ Id x → cond (marked (cond (is_in a.id l) Old m)) (Id a.id) q ≡ Id x
+    go : (m : Mark) → cond (marked m) (Some a.id) p ≡ Some x → cond (marked (cond (is_in a.id l) Old m)) (Some a.id) q ≡ Some x
     go Recent e = let g : is_in a.id l ≡ false = subst (λ y. is_in y l ≡ false) (sym (the-id e)) f in rw g e
-    go Old e = cond_ind (λ t. cond (marked t) (Id a.id) q ≡ Id x) (is_in a.id l) Old Old (λ g. h e) (λ g. h e)
+    go Old e = cond_ind (λ t. cond (marked t) (Some a.id) q ≡ Some x) (is_in a.id l) Old Old (λ g. h e) (λ g. h e)
 
-pub last-mark : (l : List WriteId) (x : WriteId) (es : List Entry) → last_recent es ≡ Id x → is_in x l ≡ false → last_recent (mark_old l es) ≡ Id x
-last-mark l x es e f = mark-after l x f Nothing Nothing (λ h. h) es e
+pub last-mark : (l : List WriteId) (x : WriteId) (es : List Entry) → last_recent es ≡ Some x → is_in x l ≡ false → last_recent (mark_old l es) ≡ Some x
+last-mark l x es e f = mark-after l x f None None (λ h. h) es e

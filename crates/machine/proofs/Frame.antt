@@ -1,4 +1,5 @@
 -- What is shared by the calls: what follows from a node's modes, and what the records of the invariant need when others change. Assumes nothing.
+use Rattle.std.specs.Prelude.{Some}
 use mathlib.Core.Path.{◌≡◌, refl, sym, ap, ap₂, subst, ◌∙◌}
 use mathlib.Core.Logic.{◌≢◌, ◌⊎◌, inl, inr}
 use mathlib.Core.Bool.{Bool, true, false, ◌||◌}
@@ -9,7 +10,6 @@ use native.Mathlib.Omega.{arith}
 use lib.Dec.{leb}
 use borrow.Author.Tests.{leb-true, leb-false, le-leb, lt-leb}
 use Rattle.entries.specs.declared.WriteId.{WriteId}
-use Rattle.entries.specs.declared.Previous.TheVariants.{Id}
 use Rattle.entries.specs.Entries.{Entry, is_listed, is_recent_in, is_old_in, last_recent}
 use Rattle.records.specs.declared.Opmode.{Opmode}
 use Rattle.records.specs.declared.Opmode.TheVariants.{Norm, Recons, Init}
@@ -203,9 +203,9 @@ module _ (O : Ops) where
           own : j ≤ k → G'.in_block j j ≡ h'.len j
           own p = W.in_block j ∙ v.own p ∙ sym (W.own p)
 
-          newest : j ≤ k → (last_recent es ≡ Id (G.id_of j (h.len j))) ⊎ (h.done j (h.len j) ≡ true)
-              → (last_recent es ≡ Id (G'.id_of j (h'.len j))) ⊎ (h'.done j (h'.len j) ≡ true)
-          newest p (inl q) = inl (q ∙ ap Id (sym (W.id_of j (h.len j) (omega arith)) ∙ ap (G'.id_of j) (sym (W.own p))))
+          newest : j ≤ k → (last_recent es ≡ Some (G.id_of j (h.len j))) ⊎ (h.done j (h.len j) ≡ true)
+              → (last_recent es ≡ Some (G'.id_of j (h'.len j))) ⊎ (h'.done j (h'.len j) ≡ true)
+          newest p (inl q) = inl (q ∙ ap Some (sym (W.id_of j (h.len j) (omega arith)) ∙ ap (G'.id_of j) (sym (W.own p))))
           newest p (inr q) = inr (subst (λ t. h'.done j t ≡ true) (sym (W.own p)) (W.done j (h.len j) q))
 
   -- the same of a hand: its client's last swap and difference are left alone, and no add of it was made
@@ -251,9 +251,9 @@ module _ (O : Ops) where
           less : suc v.q ≤ h.len w.id.position → v.q ≤ h.len w.id.position
           less a = omega arith
 
-          prev : (w.previous ≡ Id (G.id_of w.id.position v.q)) ⊎ (h.done w.id.position v.q ≡ true)
-              → (w.previous ≡ Id (G'.id_of w.id.position v.q)) ⊎ (h'.done w.id.position v.q ≡ true)
-          prev (inl e) = inl (e ∙ ap Id (sym (W.id_of w.id.position v.q (less v.high))))
+          prev : (w.previous ≡ Some (G.id_of w.id.position v.q)) ⊎ (h.done w.id.position v.q ≡ true)
+              → (w.previous ≡ Some (G'.id_of w.id.position v.q)) ⊎ (h'.done w.id.position v.q ≡ true)
+          prev (inl e) = inl (e ∙ ap Some (sym (W.id_of w.id.position v.q (less v.high))))
           prev (inr e) = inr (W.done w.id.position v.q e)
 
   pub of_live : {G : Ghost} {h : Ledger B} {j : ℕ} {b : B} {e : ℕ} → Live O G h j b e → IsNode O j

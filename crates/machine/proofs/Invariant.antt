@@ -1,15 +1,14 @@
 -- The laws of the code that demand 3 rests on, and the invariant. Assumes nothing.
+use Rattle.std.specs.Prelude.{Option, Some}
 use mathlib.Core.Path.{◌≡◌}
 use mathlib.Core.Logic.{◌⊎◌}
 use mathlib.Core.Bool.{Bool, true, false, cond}
-use mathlib.Core.Option.{Option, some}
 use mathlib.Core.List.{List}
 use Prim.Native.Nat.{ℕ, zero, suc, ◌≤◌, ◌<◌}
 use lib.Dec.{leb}
 use lib.ListN.{length, get_or}
 use Rattle.code.specs.Decode.{NodeSet, has, size}
 use Rattle.entries.specs.declared.WriteId.{WriteId}
-use Rattle.entries.specs.declared.Previous.TheVariants.{Id}
 use Rattle.entries.specs.Entries.{Entry, is_listed, is_recent_in, is_old_in, is_in, last_recent}
 use Rattle.records.specs.declared.Opmode.{Opmode}
 use Rattle.records.specs.declared.Lmode.{Lmode}
@@ -113,7 +112,7 @@ module _ (O : Ops) where
     pub epoch : e ≡ G.base
     pub same : (i : ℕ) → Spot j i → G.in_block j i ≡ G.in_list j i
     pub own : j ≤ k → G.in_block j j ≡ h.len j
-    pub newest : j ≤ k → (last_recent es ≡ Id (G.id_of j (h.len j))) ⊎ (h.done j (h.len j) ≡ true)
+    pub newest : j ≤ k → (last_recent es ≡ Some (G.id_of j (h.len j))) ⊎ (h.done j (h.len j) ≡ true)
 
   pub record OnCut (G : Ghost) (h : Ledger B) (j : ℕ) : Type 0 where
     pub under_way : G.begun ≡ true
@@ -164,8 +163,8 @@ module _ (O : Ops) where
     pub client : w.id.client ≡ c
     pub undone : h.done w.id.position (suc q) ≡ false
     pub difference : d ≡ diff (h.val w.id.position (suc q)) (h.val w.id.position q)
-    pub prev : (w.previous ≡ Id (G.id_of w.id.position q)) ⊎ (h.done w.id.position q ≡ true)
-    pub last : h.last c ≡ some (record { pos = w.id.position; place = suc q })
+    pub prev : (w.previous ≡ Some (G.id_of w.id.position q)) ⊎ (h.done w.id.position q ≡ true)
+    pub last : h.last c ≡ Some (record { pos = w.id.position; place = suc q })
     pub in_done : (j : ℕ) → k < j → is_norm (op j) ≡ true → G.is_settled j ≡ false → has w.done j ≡ true → suc q ≤ G.in_block j w.id.position
     pub not_done : (j : ℕ) → k < j → is_norm (op j) ≡ true → G.is_settled j ≡ false → has w.done j ≡ false → G.in_block j w.id.position ≤ q
 
@@ -216,7 +215,7 @@ module _ (O : Ops) where
     pub low : 1 ≤ x
     pub high : x ≤ n
     pub spare : (j : ℕ) → 1 ≤ j → j ≤ n → sp j ≡ code j (at h G.cut)
-    pub count : settles ≡ some 0
+    pub count : settles ≡ Some 0
 
   pub record SettlerOk (G : Ghost) (h : Ledger B) (sp : ℕ → B) (settles : Option ℕ) (x e : ℕ) : Type 0 where
     pub epoch : G.base ≤ e
@@ -224,7 +223,7 @@ module _ (O : Ops) where
     pub low : 1 ≤ x
     pub high : x ≤ n
     pub spare : (j : ℕ) → 1 ≤ j → j ≤ n → sp j ≡ code j (at h G.cut)
-    pub count : (y : ℕ) → x ≡ suc y → settles ≡ some y
+    pub count : (y : ℕ) → x ≡ suc y → settles ≡ Some y
 
   abbrev pub RebuildOk : Ghost → Ledger B → (ℕ → B) → ℕ → Rebuild → Type 0
   RebuildOk G h spare c NoRebuild = Unit {0}
@@ -238,7 +237,7 @@ module _ (O : Ops) where
     pub ids : IdsOk G h s.next
     pub node : (j : ℕ) → NodeOk G h j (s.block j) (s.op j) (s.epoch j) (s.entries j)
     pub pair : (j l : ℕ) → PairOk G s.op s.rset j l
-    pub hand : (c : ℕ) (w : Write) → s.hand c ≡ some w → HandOk G h s.op c (s.difference c) w
+    pub hand : (c : ℕ) (w : Write) → s.hand c ≡ Some w → HandOk G h s.op c (s.difference c) w
     pub finished : (c : ℕ) → FinishedOk G h c (s.next c) (s.finished c)
     -- locks
     pub unl : G.begun ≡ true → (j : ℕ) → is_init (s.op j) ≡ false → is_unl (s.lock j) ≡ false

@@ -2,9 +2,9 @@
 -- A call X of specs/GROUP (Writing, Reading, Rebuild, Failure or Aging) has its definition `GROUP.X` there, its lemma `X-kept` in KeptGROUP (from Good
 -- and Fits before it, Kept of its step), and, if it changes a column, `X-good`, the same on columns, below GROUP/: check and drop in Writing/Check, the
 -- calls of locks alone in Rebuild/Locks, the others in files of their own names. Assumes nothing.
+use Rattle.std.specs.Prelude.{Option, None, Some}
 use mathlib.Core.Path.{◌≡◌, refl, sym, subst}
 use mathlib.Core.Bool.{Bool, true, false, cond}
-use mathlib.Core.Option.{Option, none, some}
 use Prim.Native.Nat.{ℕ, ◌*◌}
 use native.Mathlib.Omega.{arith}
 use lib.Dec.{eqb}
@@ -79,10 +79,10 @@ module _ (z : Sizes) (h : Ledger Block) where
     pub at_same : (j c : ℕ) (a : Answer) → ((b : ℕ → Block) → note (ops z) h (entry z x a) b ≡ h) → KeptAt j c (answered a (at_node j c s))
     at_same j c a quiet = subst (λ t. Kept z h x (answered a t)) (sym (put_back j c s)) (record { good = rw (quiet (columns z s).block) g; fits = f })
 
-    pub at-unless : (j c : ℕ) (tests : Option Refusal) (effect : Outcome Local) → (tests ≡ none → KeptAt j c effect) →
+    pub at-unless : (j c : ℕ) (tests : Option Refusal) (effect : Outcome Local) → (tests ≡ None → KeptAt j c effect) →
         KeptAt j c (unless tests (at_node j c s) effect)
-    at-unless j c none effect k = k refl
-    at-unless j c (some why) effect k = at-refused j c why
+    at-unless j c None effect k = k refl
+    at-unless j c (Some why) effect k = at-refused j c why
 
     -- calls by client c on the whole stripe
     abbrev pub KeptWhole : ℕ → Outcome Whole → Type 0

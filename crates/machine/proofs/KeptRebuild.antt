@@ -1,4 +1,5 @@
 -- The calls of specs/Rebuild keep the invariant and the shapes of the tables. Assumes nothing.
+use Rattle.std.specs.Prelude.{Option, None, Some}
 use mathlib.Core.Path.{◌≡◌, refl, sym, ap, fun_ext, subst, ◌∙◌}
 use mathlib.Core.Logic.{◌⊎◌, inl, inr}
 use mathlib.Core.Bool.{Bool, true, false, cond, ◌&&◌, ◌||◌, not}
@@ -15,8 +16,6 @@ use Rattle.code.specs.Decode.{NodeSet, size, recovered_table}
 use Rattle.entries.specs.declared.Epoch.{Epoch}
 use Rattle.records.specs.declared.Sizes.{Sizes}
 use Rattle.records.specs.declared.Lmode.{Lmode}
-use Rattle.records.specs.declared.Holder.{Holder}
-use Rattle.records.specs.declared.Holder.TheVariants.{Nobody, Client}
 use Rattle.records.specs.declared.Refusal.{Refusal}
 use Rattle.records.specs.declared.Refusal.TheVariants.{OutOfLimits, OutOfRange, OutOfPhase, NotHeld, Locked}
 use Rattle.records.specs.Sizes.{sizes_within, is_node, is_client}
@@ -186,7 +185,7 @@ module _ (z : Sizes) (L : Laws (ops z)) (h : Ledger Block) (s : Stripe) (g : Goo
         (ap (set_phases (upd C.phase c q)) (put-node z (with N blocks' s.spare) j y b.low (rw f.nodes b.high)) ∙ same)
 
     -- of node j the lock alone
-    lock-set-kept : (j : ℕ) (l : Lmode) (o : Holder) (q : Rebuild) → IsNode O j → GoodAfter (relocked c (upd C.lock j (lock_of l o)) q C) →
+    lock-set-kept : (j : ℕ) (l : Lmode) (o : Option ℕ) (q : Rebuild) → IsNode O j → GoodAfter (relocked c (upd C.lock j (lock_of l o)) q C) →
         After x (answered a (advanced (set_at N j (with_lmode (at j) l o)) q w))
     lock-set-kept j l o q b =
         set-kept j (with_lmode (at j) l o) s.blocks q b f.blocks f.blocks_bytes (relocked c (upd C.lock j (lock_of l o)) q C)
@@ -224,7 +223,7 @@ module _ (z : Sizes) (L : Laws (ops z)) (h : Ledger Block) (s : Stripe) (g : Goo
       (cond_ind (After (Calls.lock c)) (Node.is_l0 x.lmode || Node.is_l1 x.lmode) _ _
       (λ e. relock-kept i (Calls.lock c) (Refused Locked) (restored c old N) (λ j. given_back c old j (C.lock j)) NoRebuild (length-restored c old N ∙ f.nodes)
       (restored-each N c i.low old fit) (give-back-good O h C g c old next))
-      (λ e. lock-set-kept i (Calls.lock c) Accepted j Lmode.L1 (Client c) (cond (leb z.n j) (Picking 0) (Locking (old ++ (x.lmode ∷ []))))
+      (λ e. lock-set-kept i (Calls.lock c) Accepted j Lmode.L1 (Some c) (cond (leb z.n j) (Picking 0) (Locking (old ++ (x.lmode ∷ []))))
       (record { low = omega arith; high = more }) (lock-good O h C g c old next x.lmode (exp-is x) (sym (locked-is x) ∙ e))))
     where
       j : ℕ
@@ -310,7 +309,7 @@ module _ (z : Sizes) (L : Laws (ops z)) (h : Ledger Block) (s : Stripe) (g : Goo
   tightens zero i some held = clash refl some
   tightens (suc t) i some held =
       rw (add-one (suc t))
-      (lock-set-kept i (Calls.tighten c) Accepted (suc t) Lmode.L1 (Client c) (cond (leb z.n (suc t)) (Picking 0) (Picking (suc (suc t))))
+      (lock-set-kept i (Calls.tighten c) Accepted (suc t) Lmode.L1 (Some c) (cond (leb z.n (suc t)) (Picking 0) (Picking (suc (suc t))))
       (record { low = omega arith; high = high (or-one (eqb (suc t) 0) (ltb z.k (suc t) && leb (suc t) z.n) i.within) })
       (tighten-good O h C g c t i.phase (held_at i (suc t) held)))
     where
@@ -401,7 +400,7 @@ module _ (z : Sizes) (L : Laws (ops z)) (h : Ledger Block) (s : Stripe) (g : Goo
   unlocks j i held =
       let b = node j i.within in
       rw (add-one j)
-      (lock-set-kept i (Calls.unlock c) Accepted j Lmode.Unl Nobody (cond (leb z.n j) NoRebuild (Unlocking (suc j))) b
+      (lock-set-kept i (Calls.unlock c) Accepted j Lmode.Unl None (cond (leb z.n j) NoRebuild (Unlocking (suc j))) b
       (unlock-good O h C g c j i.phase b (held_at i j held)))
 
   pub unlock-kept : Kept z h (Calls.unlock c) (step z (Calls.unlock c) s)

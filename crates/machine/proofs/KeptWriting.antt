@@ -1,8 +1,8 @@
 -- The calls of specs/Writing keep the invariant and the shapes of the tables. Assumes nothing.
+use Rattle.std.specs.Prelude.{Option, None, Some}
 use mathlib.Core.Path.{◌≡◌, refl, ap, ◌∙◌}
 use mathlib.Core.Bool.{Bool, true, false, cond, ◌&&◌, ◌||◌, not}
 use mathlib.Core.List.{List}
-use mathlib.Core.Option.{Option, none, some}
 use Prim.Native.Nat.{ℕ, ◌+◌, ◌*◌, ◌≤◌, ◌<◌}
 use native.Mathlib.Numerals.{add-one}
 use native.Mathlib.Omega.{arith}
@@ -247,7 +247,7 @@ module _ (z : Sizes) (L : Laws (ops z)) (h : Ledger Block) (s : Stripe) (g : Goo
       w' = Writing.with_done w (including j w.done)
 
       add-accepted : (b : Bool) → Writing.completes z j w ≡ b →
-          After add j c (answered (cond b Done Added) (leaves (cond b (finished_write w.id (client_of c)) (with_hand (some w') (client_of c)))))
+          After add j c (answered (cond b Done Added) (leaves (cond b (finished_write w.id (client_of c)) (with_hand (Some w') (client_of c)))))
       add-accepted true e =
           record {
             good = rw (add-seen (finished_write w.id (client_of c)) refl refl) (add-done-good (ops z) L h C c j w g may (complete e));
@@ -255,8 +255,8 @@ module _ (z : Sizes) (L : Laws (ops z)) (h : Ledger Block) (s : Stripe) (g : Goo
           }
       add-accepted false e =
           record {
-            good = rw (add-seen (with_hand (some w') (client_of c)) refl refl, upd-keep C.finished c) (add-more-good (ops z) L h C c j w g may);
-            fits = add-fits (with_hand (some w') (client_of c));
+            good = rw (add-seen (with_hand (Some w') (client_of c)) refl refl, upd-keep C.finished c) (add-more-good (ops z) L h C c j w g may);
+            fits = add-fits (with_hand (Some w') (client_of c));
           }
 
     may_add : (w : Write) → AddPasses z c j (node_of j) (client_of c) w → MayAdd (ops z) C c j w
@@ -275,10 +275,10 @@ module _ (z : Sizes) (L : Laws (ops z)) (h : Ledger Block) (s : Stripe) (g : Goo
           previous = p.previous;
         }
 
-    add-held : (t : Option Write) → (client_of c).hand ≡ t → Writing.add_tests z c j (node_of j) (client_of c) ≡ none →
+    add-held : (t : Option Write) → (client_of c).hand ≡ t → Writing.add_tests z c j (node_of j) (client_of c) ≡ None →
         After add j c (Writing.added z c j t (at_node j c s))
-    add-held none held e = add-empty z c j (node_of j) (client_of c) held e
-    add-held (some w) held e =
+    add-held None held e = add-empty z c j (node_of j) (client_of c) held e
+    add-held (Some w) held e =
         let p = add-passes z c j (node_of j) (client_of c) w held e in
         let (client, redundant) = and_both (is_client z c) (is_redundant z j) p.range in
         add-accepted (within client) w (may_add w p) (Writing.completes z j w) refl
@@ -304,7 +304,7 @@ module _ (z : Sizes) (L : Laws (ops z)) (h : Ledger Block) (s : Stripe) (g : Goo
   unfolding step Writing.drop
   drop-kept c =
       tested x 0 c _ _ _ (λ r1. tested x 0 c _ _ _ (λ r2. tested x 0 c _ _ _ (λ r3.
-      kept-hand x 0 c Accepted none (within (not-false _ r2)) (λ b. refl) (drop-good (ops z) h C c g))))
+      kept-hand x 0 c Accepted None (within (not-false _ r2)) (λ b. refl) (drop-good (ops z) h C c g))))
     where
       x : Call
       x = Calls.drop c
@@ -315,8 +315,8 @@ module _ (z : Sizes) (L : Laws (ops z)) (h : Ledger Block) (s : Stripe) (g : Goo
 
     check-written : Within z.m c → (t : Option Write) → C.hand c ≡ t → After check j c (Writing.check_write j t (at_node j c s))
     unfolding Writing.check_write
-    check-written client none e = at-refused z h s g f check j c _
-    check-written client (some w) e =
+    check-written client None e = at-refused z h s g f check j c _
+    check-written client (Some w) e =
         tested check j c _ _ _ (λ r3. cond_ind (After check j c) (not (is_recent_in w.id (C.entries j))) _ _
         (λ gone.
         let old = not-true (is_recent_in w.id (C.entries j)) gone in

@@ -1,7 +1,7 @@
 -- What has happened since the last finished rebuild, kept by counts: the form of the history that the invariant speaks of. That it tells the same as
 -- the lists of specs/History is shown in Told. Assumes nothing.
+use Rattle.std.specs.Prelude.{Option, None, Some}
 use mathlib.Core.Bool.{Bool, true, false, cond}
-use mathlib.Core.Option.{Option, none, some}
 use mathlib.Core.Path.{◌≡◌}
 use Prim.Native.Nat.{ℕ, suc, ◌≤◌, ◌<◌}
 use lib.Dec.{eqb}
@@ -48,7 +48,7 @@ module _ {B : Type 0} where
         len = upd h.len i (suc (h.len i));
         val = upd2 h.val i (suc (h.len i)) v;
         done = h.done;
-        last = upd h.last c (some (record { pos = i; place = suc (h.len i) }));
+        last = upd h.last c (Some (record { pos = i; place = suc (h.len i) }));
         stale = h.stale;
         settles = h.settles;
         failed = h.failed;
@@ -56,13 +56,13 @@ module _ {B : Type 0} where
 
   -- the answer Done reports the last accepted swap of the same client
   abbrev pub note_done : Ledger B → Option Swapped → Ledger B
-  note_done h none = record { len = h.len; val = h.val; done = h.done; last = h.last; stale = true; settles = h.settles; failed = h.failed }
-  note_done h (some w) =
+  note_done h None = record { len = h.len; val = h.val; done = h.done; last = h.last; stale = true; settles = h.settles; failed = h.failed }
+  note_done h (Some w) =
       record { len = h.len; val = h.val; done = upd2 h.done w.pos w.place true; last = h.last; stale = h.stale; settles = h.settles; failed = h.failed }
 
   abbrev pub note_count : Ledger B → ℕ → ℕ → Ledger B
   note_count h c x =
-      record { len = h.len; val = h.val; done = h.done; last = h.last; stale = h.stale; settles = upd h.settles c (some x); failed = h.failed }
+      record { len = h.len; val = h.val; done = h.done; last = h.last; stale = h.stale; settles = upd h.settles c (Some x); failed = h.failed }
 
   abbrev pub note_fail : Ledger B → Ledger B
   note_fail h = record { len = h.len; val = h.val; done = h.done; last = h.last; stale = h.stale; settles = h.settles; failed = true }
@@ -70,19 +70,19 @@ module _ {B : Type 0} where
   -- a finished rebuild: all counts begin anew from the blocks as its last settle left them
   abbrev pub note_finish : Ledger B → ℕ → ℕ → (ℕ → B) → Ledger B
   note_finish h c x b =
-      record { len = λ i. 0; val = λ i l. b i; done = zeroth; last = λ c. none; stale = false; settles = upd h.settles c (some x); failed = false }
+      record { len = λ i. 0; val = λ i l. b i; done = zeroth; last = λ c. None; stale = false; settles = upd h.settles c (Some x); failed = false }
 
 module _ (O : Ops) where
   open O use {B, k, n, zeroes, parity}
 
   -- whether one more settle of the client is the nth
   abbrev pub is_last : Option ℕ → Bool
-  is_last none = false
-  is_last (some x) = eqb (suc x) n
+  is_last None = false
+  is_last (Some x) = eqb (suc x) n
 
   abbrev pub note_settle : Ledger B → ℕ → Option ℕ → (ℕ → B) → Ledger B
-  note_settle h c none b = h
-  note_settle h c (some x) b = cond (eqb (suc x) n) (note_finish h c (suc x) b) (note_count h c (suc x))
+  note_settle h c None b = h
+  note_settle h c (Some x) b = cond (eqb (suc x) n) (note_finish h c (suc x) b) (note_count h c (suc x))
 
   -- b: the blocks after the call
   abbrev pub note : Ledger B → Entered B → (ℕ → B) → Ledger B
@@ -94,7 +94,7 @@ module _ (O : Ops) where
   note h Quiet b = h
 
   unfoldable pub no_ledger : Ledger B
-  no_ledger = record { len = λ i. 0; val = λ i l. zeroes; done = zeroth; last = λ c. none; stale = false; settles = λ c. none; failed = false }
+  no_ledger = record { len = λ i. 0; val = λ i l. zeroes; done = zeroth; last = λ c. None; stale = false; settles = λ c. None; failed = false }
 
   pub record IsPos (i : ℕ) : Type 0 where
     pub low : 1 ≤ i

@@ -4,6 +4,7 @@
 --     shown-ind          the cases of a read: it is refused, shows a live block, or shows the spare's
 --     read-leaves        in each it leaves the stripe as it is
 -- Assumes nothing.
+use Rattle.std.specs.Prelude.{Option, None, Some, unwrap_or}
 use mathlib.Core.Path.{◌≡◌, refl, sym}
 use mathlib.Core.Logic.{◌⊎◌, inl, inr}
 use mathlib.Core.Bool.{Bool, true, false, cond, ◌&&◌, not}
@@ -22,10 +23,8 @@ use Rattle.records.specs.declared.Refusal.{Refusal}
 use Rattle.records.specs.declared.Refusal.TheVariants.{OutOfLimits, OutOfRange}
 use Rattle.records.specs.declared.Lmode.{Lmode}
 use Rattle.records.specs.declared.Lmode.TheVariants.{Unl, L0, L1, Exp}
-use Rattle.records.specs.declared.Holder.{Holder}
-use Rattle.records.specs.declared.Holder.TheVariants.{Nobody, Client}
 use Rattle.records.specs.Sizes.{sizes_within, is_client, is_position}
-use Rattle.records.specs.Node.{Node, failed_node, is_norm, is_unl, is_l1, is_holder, is_free, held_at_l1, holder_number, holder_of, holder_within, node_within}
+use Rattle.records.specs.Node.{Node, failed_node, is_norm, is_unl, is_l1, is_holder, is_free, held_at_l1, holder_of, holder_within, node_within}
 use Rattle.machine.specs.Stripe.{Stripe, Outcome, Shown, answered, refused, guard, number, node_at, blocks_fit, nodes_fit}
 use Rattle.machine.specs.Reading.{read_or, refused_mode, rebuilds, spare_fits, read_spare, read, Rebuilding, ReadsAsBefore, ReadsSpare}
 use Rattle.machine.proofs.CodeLaws.{sizes}
@@ -38,9 +37,9 @@ l1-unl L0 e = clash e refl
 l1-unl L1 e = refl
 l1-unl Exp e = clash e refl
 
-is-holder : (c : ℕ) (h : Holder) → is_holder c h ≡ true → holder_number h ≡ c
-is-holder c Nobody e = clash e refl
-is-holder c (Client d) e = sym (eqb-true c d e)
+is-holder : (c : ℕ) (h : Option ℕ) → is_holder c h ≡ true → unwrap_or h 0 ≡ c
+is-holder c None e = clash e refl
+is-holder c (Some d) e = sym (eqb-true c d e)
 
 holds-all : (c : ℕ) (s : Stripe) → rebuilds c s ≡ true → every_of (held_at_l1 c) s.nodes ≡ true
 holds-all c s e = search and_right
@@ -124,14 +123,14 @@ module _ (z : Sizes) (i : ℕ) (s : Stripe) where
 
 ---- where none does
 -- who rebuilds and holds a node within the limits is one of the clients
-holder-client : (z : Sizes) (s : Stripe) (l : Lmode) (h : Holder) → holder_within z l h ≡ true → rebuilds (holder_number h) s ≡ true →
-    is_client z (holder_number h) ≡ true
+holder-client : (z : Sizes) (s : Stripe) (l : Lmode) (h : Option ℕ) → holder_within z l h ≡ true → rebuilds (unwrap_or h 0) s ≡ true →
+    is_client z (unwrap_or h 0) ≡ true
 unfolding element_at
-holder-client z s l Nobody within e = clash e refl
-holder-client z s Unl (Client c) within e = clash within refl
-holder-client z s L0 (Client c) within e = within
-holder-client z s L1 (Client c) within e = within
-holder-client z s Exp (Client c) within e = clash within refl
+holder-client z s l None within e = clash e refl
+holder-client z s Unl (Some c) within e = clash within refl
+holder-client z s L0 (Some c) within e = within
+holder-client z s L1 (Some c) within e = within
+holder-client z s Exp (Some c) within e = clash within refl
 
 pub reads-as-before : ReadsAsBefore
 unfolding read node_within

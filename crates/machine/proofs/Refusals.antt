@@ -1,9 +1,9 @@
 -- A refusal that changes nothing by its number leaves the stripe as it was, whatever sizes the call is handed. One lemma `X-same` for each call X.
 -- Assumes nothing.
+use Rattle.std.specs.Prelude.{Option, None, Some}
 use mathlib.Core.Path.{◌≡◌, refl, ap, ◌∙◌}
 use mathlib.Core.Bool.{Bool, true, false, cond, ◌||◌, not}
 use mathlib.Core.List.{List}
-use mathlib.Core.Option.{Option, none, some}
 use Prim.Native.Nat.{ℕ, ◌+◌}
 use lib.Dec.{eqb, leb}
 use lib.ListN.{length}
@@ -56,8 +56,8 @@ module _ {S : Type 0} (s : S) where
 module _ (z : Sizes) where
   module _ (l : Local) where
     unless-same : (tests : Option Refusal) (effect : Outcome Local) → Same l effect → Same l (Writing.unless tests l effect)
-    unless-same none effect k = k
-    unless-same (some why) effect k = same-refused l why
+    unless-same None effect k = k
+    unless-same (Some why) effect k = same-refused l why
 
     swap-same : (c i : ℕ) (value : List ℕ) → Same l (Writing.swap z c i value l)
     unfolding Writing.swap
@@ -66,8 +66,8 @@ module _ (z : Sizes) where
         same-guard l _ _ _ (unless-same (Writing.swap_tests z c i l.node l.client) (answered Accepted after) (same-other l Accepted after refl))
 
     added-same : (c j : ℕ) (hand : Option Write) → Same l (Writing.added z c j hand l)
-    added-same c j none = same-refused l _
-    added-same c j (some w) =
+    added-same c j None = same-refused l _
+    added-same c j (Some w) =
         same-other l _ _ (cond_ind (λ a. may_change (number a) ≡ true) (Writing.completes z j w) Done Added (λ e. refl) (λ e. refl))
 
     add_same : (c j : ℕ) → Same l (Writing.add z c j l)
@@ -78,8 +78,8 @@ module _ (z : Sizes) where
 
     checked-same : (j : ℕ) (w : Option Write) → Same l (Writing.check_write j w l)
     unfolding Writing.check_write
-    checked-same j none = same-refused l _
-    checked-same j (some w) =
+    checked-same j None = same-refused l _
+    checked-same j (Some w) =
         same-guard l _ _ _
         (same_cond l (not (is_recent_in w.id l.node.entries)) _ _ (same-other l _ _ refl)
         (same_cond l (previous_recent w.previous l.node.entries) _ _ (same-other l _ _ refl) (same-other l _ _ refl)))

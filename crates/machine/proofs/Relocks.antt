@@ -1,4 +1,5 @@
 -- The calls that lock, weaken, expire and give back, record by record: all but the lock stays, and the lock is that of the columns. Assumes nothing.
+use Rattle.std.specs.Prelude.{Option, None, Some}
 use mathlib.Core.Path.{◌≡◌, refl}
 use mathlib.Core.Bool.{Bool, true, false, cond, ◌&&◌, ◌||◌}
 use mathlib.Core.List.{List, map}
@@ -9,8 +10,6 @@ use lib.ListN.{length, get_or}
 use borrow.Author.Tests.{leb-true, leb-false}
 use Rattle.records.specs.declared.Sizes.{Sizes}
 use Rattle.records.specs.declared.Lmode.{Lmode}
-use Rattle.records.specs.declared.Holder.{Holder}
-use Rattle.records.specs.declared.Holder.TheVariants.{Nobody, Client}
 use Rattle.records.specs.Node.{Node, failed_node, with_lmode, expired_for, weakened_by}
 use Rattle.records.specs.Node as Node
 use Rattle.records.specs.Client.{unl_or_exp}
@@ -33,7 +32,7 @@ pub record LockedAs (x : Node) (l : Lock) (y : Node) : Type 0 where
   pub rset : y.rset ≡ x.rset
   pub entries : y.entries ≡ x.entries
 
-with-lmode : (x : Node) (l : Lmode) (h : Holder) → LockedAs x (lock_of l h) (with_lmode x l h)
+with-lmode : (x : Node) (l : Lmode) (h : Option ℕ) → LockedAs x (lock_of l h) (with_lmode x l h)
 with-lmode x l h = record { opmode = refl; lock = refl; epoch = refl; rset = refl; entries = refl }
 
 as-it-is : (x : Node) → LockedAs x (lock_in x) x
@@ -49,22 +48,22 @@ module _ (nodes : List Node) (c : ℕ) where
       LockedAs (node_at nodes j) (cond (ltb z.k j && leb j z.n) (L0 c) (lock_in (node_at nodes j))) (node_at (weakened z c nodes) j)
   weakened-each z fit j =
       rw (from_at failed_node (weakened_by c) z.k z.n nodes fit j)
-      (one-test (ltb z.k j && leb j z.n) (with-lmode (node_at nodes j) Lmode.L0 (Client c)) (as-it-is (node_at nodes j)))
+      (one-test (ltb z.k j && leb j z.n) (with-lmode (node_at nodes j) Lmode.L0 (Some c)) (as-it-is (node_at nodes j)))
 
   module _ (c1 : 1 ≤ c) where
     pub expired-each : (j : ℕ) → LockedAs (node_at nodes j) (expired c (lock_in (node_at nodes j))) (node_at (map (expired_for c) nodes) j)
     expired-each j = rw (map_at failed_node (expired_for c) refl nodes j) (one (node_at nodes j))
       where
         one : (x : Node) → LockedAs x (expired c (lock_in x)) (expired_for c x)
-        one x = rw (← held-is c x c1) (one-test (Node.held_by c x) (with-lmode x Lmode.Exp Nobody) (as-it-is x))
+        one x = rw (← held-is c x c1) (one-test (Node.held_by c x) (with-lmode x Lmode.Exp None) (as-it-is x))
 
     -- what is remembered of a node is UNL or EXP
     module _ (old : List Lmode) (fit : unl_or_exp old ≡ true) where
-      given : (x : Node) (l : Lmode) → (Node.is_unl l || Node.is_exp l) ≡ true → LockedAs x (cond (Node.is_exp l) Exp Unl) (with_lmode x l Nobody)
-      given x Lmode.Unl e = with-lmode x Lmode.Unl Nobody
+      given : (x : Node) (l : Lmode) → (Node.is_unl l || Node.is_exp l) ≡ true → LockedAs x (cond (Node.is_exp l) Exp Unl) (with_lmode x l None)
+      given x Lmode.Unl e = with-lmode x Lmode.Unl None
       given x Lmode.L0 e = clash e refl
       given x Lmode.L1 e = clash e refl
-      given x Lmode.Exp e = with-lmode x Lmode.Exp Nobody
+      given x Lmode.Exp e = with-lmode x Lmode.Exp None
 
       pub restored-each : (j : ℕ) → LockedAs (node_at nodes j) (given_back c old j (lock_in (node_at nodes j))) (node_at (restored c old nodes) j)
       unfolding element_at was_exp

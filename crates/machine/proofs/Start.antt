@@ -1,10 +1,10 @@
 -- A fresh stripe has the invariant, and from the invariant follows what the guarantee says of a block that a read shows (`live-part`, `spare-part`)
 -- and of a stripe with every write done (`steady`). Assumes nothing.
+use Rattle.std.specs.Prelude.{None}
 use mathlib.Core.Path.{◌≡◌, refl, sym, ap, subst, ◌∙◌}
 use mathlib.Core.Logic.{◌⊎◌, inl, inr}
 use mathlib.Core.Bool.{true, false}
 use mathlib.Core.List.{[]}
-use mathlib.Core.Option.{none}
 use Prim.Native.Nat.{ℕ, zero, suc, ◌≤◌}
 use native.Mathlib.Omega.{arith}
 use lib.Dec.{leb}
@@ -34,7 +34,7 @@ module _ (O : Ops) where
     pub epoch : (j : ℕ) → s.epoch j ≡ 0
     pub rset : (j : ℕ) → s.rset j ≡ no_nodes
     pub entries : (j : ℕ) → s.entries j ≡ []
-    pub hand : (c : ℕ) → s.hand c ≡ none
+    pub hand : (c : ℕ) → s.hand c ≡ None
     pub phase : (c : ℕ) → s.phase c ≡ NoRebuild
     pub finished : (c : ℕ) → s.finished c ≡ []
 

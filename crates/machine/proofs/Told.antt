@@ -5,10 +5,10 @@
 --     first_part, rebuilt-well,
 --     last-values                  what is proved of the ledger holds of the history
 -- Assumes nothing.
+use Rattle.std.specs.Prelude.{Option, None, Some}
 use mathlib.Core.Path.{◌≡◌, refl, sym, ap, subst, ◌∙◌}
 use mathlib.Core.Logic.{◌≢◌, ◌⊎◌, inl, inr}
 use mathlib.Core.Bool.{Bool, true, false, cond, ◌||◌, or_assoc}
-use mathlib.Core.Option.{Option, none, some}
 use mathlib.Core.List.{List, [], ◌∷◌, ◌++◌, append-nil}
 use Prim.Native.Nat.{ℕ, zero, suc, ◌*◌, ◌≤◌, ◌<◌}
 use native.Mathlib.Decide.{dec_le}
@@ -102,7 +102,7 @@ among-append [] vs w = refl
 among-append (x ∷ ws) vs w = rw (is_among, among-append ws vs w) (sym (or_assoc (eqb w.place x.place) (is_among w ws) (is_among w vs)))
 
 -- a write that is the client's last swap w, where w is at i
-among-if : (i : ℕ) (w v : Written) → is_among v (if_at i (some w)) ≡ true → (i ≡ w.position) × (v.place ≡ w.place)
+among-if : (i : ℕ) (w v : Written) → is_among v (if_at i (Some w)) ≡ true → (i ≡ w.position) × (v.place ≡ w.place)
 unfolding is_among
 among-if i w v = go (eqb i w.position) refl
   where
@@ -118,10 +118,10 @@ record Places (p : ℕ) (ws : List Written) : Type 0 where
   own : (l m q : ℕ) → IsNth ws l q → IsNth ws m q → l ≡ m
 
 no-places : (p : ℕ) → Places p []
-no-places p = record { below = λ l q i. absurd (none i); own = λ l m q i j. absurd (none i) }
+no-places p = record { below = λ l q i. absurd (nothing i); own = λ l m q i j. absurd (nothing i) }
   where
-    none : {l q : ℕ} → IsNth [] l q → ⊥
-    none i = omega (arith, i.low, i.high)
+    nothing : {l q : ℕ} → IsNth [] l q → ⊥
+    nothing i = omega (arith, i.low, i.high)
 
 later-places : (p : ℕ) (ws : List Written) → Places p ws → Places (suc p) ws
 later-places p ws P = record { below = λ l q i. omega (arith, P.below l q i); own = P.own }
@@ -142,7 +142,7 @@ more-places p ws w e P =
 
 ---- what the ledger tells
 
-no_last : {A : Type 0} (s : Swapped) → ◌≡◌ {A = Option Swapped} none (some s) → A
+no_last : {A : Type 0} (s : Swapped) → ◌≡◌ {A = Option Swapped} None (Some s) → A
 no_last s q = let x : ◌≡◌ {A = ℕ} 0 1 = cc in absurd (omega arith)
 
 -- the call is a client's accepted settle, its last by the ledger, where the sizes are z
@@ -170,7 +170,7 @@ module _ (z : Sizes) where
   -- of a client's last swap: it is s, one of the swaps ws at its position
   record ToldLast (last : Option Written) (ws : List Written) (s : Swapped) : Type 0 where
     swap : Written
-    is : last ≡ some swap
+    is : last ≡ Some swap
     position : swap.position ≡ s.pos
     nth : IsNth ws s.place swap.place
 
@@ -185,7 +185,7 @@ module _ (z : Sizes) where
 
   -- (of a swap from before the last finished rebuild the ledger tells nothing)
   abbrev LastTold : Ledger Block → List Event → ℕ → Type 0
-  LastTold h past c = (s : Swapped) → h.last c ≡ some s → ToldLast (last_swap c past) (swaps_at z s.pos past) s
+  LastTold h past c = (s : Swapped) → h.last c ≡ Some s → ToldLast (last_swap c past) (swaps_at z s.pos past) s
 
   abbrev ReportsTold : Bool → (ℕ → ℕ → Bool) → List Event → Type 0
   ReportsTold stale done past = stale ≡ false → (i : ℕ) (w : Written) → is_among w (reported_at z i past) ≡ true → ToldDone (done i) (swaps_at z i past) w
@@ -381,18 +381,18 @@ module _ (z : Sizes) where
 
           own : LastTold swapped (e ∷ past) c
           own s l =
-              let q : entered ≡ s = cc (upd_same h.last c (some entered)) in
+              let q : entered ≡ s = cc (upd_same h.last c (Some entered)) in
               subst (λ (s : Swapped). ToldLast (last_swap c (e ∷ past)) (swaps_at z s.pos (e ∷ past)) s) q
               (rw (last-is this is c, eq-eqb c c refl, now-swaps)
               (record { swap = new; is = refl; position = refl; nth = rw (T.swaps i).count (nth-new before new) }))
 
           other : (d : ℕ) → c ≢ d → LastTold swapped (e ∷ past) d
-          other d x s l = told-last this is refl d (rw (ne_eqb d c (λ q. x (sym q)))) s (sym (upd_other h.last c (some entered) d x) ∙ l)
+          other d x s l = told-last this is refl d (rw (ne_eqb d c (λ q. x (sym q)))) s (sym (upd_other h.last c (Some entered) d x) ∙ l)
 
     ---- an add that is answered Done
     told-report : (c : ℕ) → happened e ≡ AddBy c → is_done e.answer ≡ true → (last : Option Swapped) → h.last c ≡ last → Told (note_done h last) (e ∷ past)
-    told-report c is done none l = told-unwritten (AddBy c) is refl (λ i. refl) (λ d. refl) (λ fresh. clash refl fresh) T.counts no-failure
-    told-report c is done (some s) l = told-unwritten (AddBy c) is refl (λ i. refl) (λ d. refl) reported T.counts no-failure
+    told-report c is done None l = told-unwritten (AddBy c) is refl (λ i. refl) (λ d. refl) (λ fresh. clash refl fresh) T.counts no-failure
+    told-report c is done (Some s) l = told-unwritten (AddBy c) is refl (λ i. refl) (λ d. refl) reported T.counts no-failure
       where
         marks : ℕ → ℕ → Bool
         marks = upd2 h.done s.pos s.place true
@@ -401,7 +401,7 @@ module _ (z : Sizes) where
         t = T.last c s l
 
         -- reported before, or now
-        by : h.stale ≡ false → (i : ℕ) (w : Written) → (is_among w (reported_at z i past) ≡ true) ⊎ (is_among w (if_at i (some t.swap)) ≡ true)
+        by : h.stale ≡ false → (i : ℕ) (w : Written) → (is_among w (reported_at z i past) ≡ true) ⊎ (is_among w (if_at i (Some t.swap)) ≡ true)
             → ToldDone (marks i) (swaps_at z i past) w
         by fresh i w (inl old) =
             let d = T.reported fresh i w old in
@@ -414,15 +414,15 @@ module _ (z : Sizes) where
 
         reported : ReportsTold h.stale marks (e ∷ past)
         reported fresh i w among =
-            let now : List Written = if_at i (some t.swap) in
+            let now : List Written = if_at i (Some t.swap) in
             told-done (AddBy c) is refl (marks i) i w
             (by fresh i w (or-one (is_among w (reported_at z i past)) (is_among w now)
             (sym (among-append (reported_at z i past) now w) ∙ rw (reported-are (AddBy c) is refl i, done, t.is) at among)))
 
     ---- picks and settles
-    picked-counts : (c d : ℕ) → upd h.settles c (some 0) d ≡ count_settle d (PickBy c) (settles d past)
+    picked-counts : (c d : ℕ) → upd h.settles c (Some 0) d ≡ count_settle d (PickBy c) (settles d past)
     picked-counts c =
-        upd-ind (λ d x. x ≡ count_settle d (PickBy c) (settles d past)) h.settles c (some 0) (rw (eq-eqb c c refl))
+        upd-ind (λ d x. x ≡ count_settle d (PickBy c) (settles d past)) h.settles c (Some 0) (rw (eq-eqb c c refl))
         (λ d x. rw (ne_eqb d c (λ q. x (sym q))) (T.counts d))
 
     -- a client's settle leaves the others' counts
@@ -430,22 +430,22 @@ module _ (z : Sizes) where
     others-counts c d x = T.counts d ∙ by (settles d past)
       where
         by : (count : Option ℕ) → count ≡ count_settle d (SettleBy c) count
-        by none = refl
-        by (some y) = rw (ne_eqb d c (λ q. x (sym q)))
+        by None = refl
+        by (Some y) = rw (ne_eqb d c (λ q. x (sym q)))
 
-    settled-counts : (c y : ℕ) → h.settles c ≡ some y → (d : ℕ) → upd h.settles c (some (suc y)) d ≡ count_settle d (SettleBy c) (settles d past)
+    settled-counts : (c y : ℕ) → h.settles c ≡ Some y → (d : ℕ) → upd h.settles c (Some (suc y)) d ≡ count_settle d (SettleBy c) (settles d past)
     settled-counts c y l =
-        upd-ind (λ d x. x ≡ count_settle d (SettleBy c) (settles d past)) h.settles c (some (suc y)) (rw (← T.counts c, l, eq-eqb c c refl))
+        upd-ind (λ d x. x ≡ count_settle d (SettleBy c) (settles d past)) h.settles c (Some (suc y)) (rw (← T.counts c, l, eq-eqb c c refl))
         (others-counts c)
 
     -- before any pick
-    uncounted : (c : ℕ) → h.settles c ≡ none → (d : ℕ) → h.settles d ≡ count_settle d (SettleBy c) (settles d past)
+    uncounted : (c : ℕ) → h.settles c ≡ None → (d : ℕ) → h.settles d ≡ count_settle d (SettleBy c) (settles d past)
     uncounted c l = each-place (λ d. h.settles d ≡ count_settle d (SettleBy c) (settles d past)) c (rw (← T.counts c, l)) (others-counts c)
 
     -- the nth settle is the ledger's last
     settle-finishes : (c : ℕ) (count : Option ℕ) → h.settles c ≡ count → finishes_by (nodes_at n past) (SettleBy c) past ≡ is_last (ops (sizes_at z past)) count
-    settle-finishes c none l = rw (← T.counts c, l)
-    settle-finishes c (some y) l = rw (← T.counts c, l, eq-eqb c c refl)
+    settle-finishes c None l = rw (← T.counts c, l)
+    settle-finishes c (Some y) l = rw (← T.counts c, l, eq-eqb c c refl)
 
     -- where the call leaves m blocks
     module _ (m : ℕ) (wide : k ≤ m) (long : length e.blocks ≡ m * b) (bytes : Bytes e.blocks) where
@@ -453,7 +453,7 @@ module _ (z : Sizes) where
       abbrev left : ℕ → Block
       left = block_of b e.blocks
 
-      told-finish : (c y : ℕ) → happened e ≡ SettleBy c → finishes_by (nodes_at n past) (SettleBy c) past ≡ true → h.settles c ≡ some y
+      told-finish : (c y : ℕ) → happened e ≡ SettleBy c → finishes_by (nodes_at n past) (SettleBy c) past ≡ true → h.settles c ≡ Some y
           → Told (note_finish h c (suc y) left) (e ∷ past)
       unfolding swaps_at reported_at given failed_since finishes is_among gathered
       told-finish c y is ends l =
@@ -466,10 +466,10 @@ module _ (z : Sizes) where
           }
 
       told-settle : (c : ℕ) → happened e ≡ SettleBy c → (count : Option ℕ) → h.settles c ≡ count → Told (note_settle (ops (sizes_at z past)) h c count left) (e ∷ past)
-      told-settle c is none l =
-          told-quiet (SettleBy c) is (settle-finishes c none l) (λ i. refl) (λ d. refl) (λ i. refl) (uncounted c l) no-failure
-      told-settle c is (some y) l =
-          let test = settle-finishes c (some y) l in
+      told-settle c is None l =
+          told-quiet (SettleBy c) is (settle-finishes c None l) (λ i. refl) (λ d. refl) (λ i. refl) (uncounted c l) no-failure
+      told-settle c is (Some y) l =
+          let test = settle-finishes c (Some y) l in
           cond_ind (λ h'. Told h' (e ∷ past)) (eqb (suc y) (nodes_at n past)) (note_finish h c (suc y) left) (note_count h c (suc y))
           (λ t. told-finish c y is (test ∙ t) l)
           (λ t. told-quiet (SettleBy c) is (test ∙ t) (λ i. refl) (λ d. refl) (λ i. refl) (settled-counts c y l) no-failure)

@@ -1,4 +1,5 @@
 -- A stripe of records and tables seen by columns, and what putting records back does to the columns. Assumes nothing.
+use Rattle.std.specs.Prelude.{Option, None, Some, unwrap_or}
 use mathlib.Core.Path.{◌≡◌, refl, sym, ap, fun_ext, subst, ◌∙◌}
 use mathlib.Core.Logic.{◌≢◌, ◌⊎◌, inl, inr}
 use mathlib.Core.Bool.{true, ◌&&◌, ◌||◌}
@@ -11,9 +12,7 @@ use lib.Seq.{get_or-set_same, get_or-set_other, set-get_or}
 use Rattle.records.specs.declared.Sizes.{Sizes}
 use Rattle.records.specs.declared.Refusal.{Refusal}
 use Rattle.records.specs.declared.Lmode.{Lmode}
-use Rattle.records.specs.declared.Holder.{Holder}
-use Rattle.records.specs.declared.Holder.TheVariants.{Nobody, Client}
-use Rattle.records.specs.Node.{Node, failed_node, is_holder, holder_number}
+use Rattle.records.specs.Node.{Node, failed_node, is_holder}
 use Rattle.records.specs.Node as Node
 use Rattle.records.specs.Client as Client
 use Rattle.records.specs.Client.{fresh_client}
@@ -24,10 +23,10 @@ use Rattle.basics.proofs.Tests.{same_or, clash}
 use Rattle.machine.proofs.Columns.{Columns, Lock, Unl, Exp, L0, L1, is_unl, is_exp, is_l0, is_locked, held_by, set_ops, set_locks, set_epochs, set_rsets, set_entries, set_hands, set_phases, set_finished, set_nexts}
 use Rattle.machine.proofs.Bytes.{Block, block_of}
 
-abbrev pub lock_of : Lmode → Holder → Lock
+abbrev pub lock_of : Lmode → Option ℕ → Lock
 lock_of Lmode.Unl h = Unl
-lock_of Lmode.L0 h = L0 (holder_number h)
-lock_of Lmode.L1 h = L1 (holder_number h)
+lock_of Lmode.L0 h = L0 (unwrap_or h 0)
+lock_of Lmode.L1 h = L1 (unwrap_or h 0)
 lock_of Lmode.Exp h = Exp
 
 -- the lock of a node's record
@@ -175,28 +174,28 @@ module _ (s : Stripe) (why : Refusal) where
   refused-on c call e = ap (λ o. answered o.answer (put_whole c o.after s)) e ∙ ap (answered _) (put-whole-back c s)
 
 ---- locks: the record's tests are the lock's
-held-lock : (c : ℕ) (l : Lmode) (h : Holder) → 1 ≤ c → ((Node.is_l0 l || Node.is_l1 l) && is_holder c h) ≡ held_by c (lock_of l h)
+held-lock : (c : ℕ) (l : Lmode) (h : Option ℕ) → 1 ≤ c → ((Node.is_l0 l || Node.is_l1 l) && is_holder c h) ≡ held_by c (lock_of l h)
 held-lock c Lmode.Unl h a = refl
 held-lock c Lmode.Exp h a = refl
-held-lock c Lmode.L0 Nobody a = sym (ne_eqb c 0 (λ e. omega arith))
-held-lock c Lmode.L0 (Client d) a = refl
-held-lock c Lmode.L1 Nobody a = sym (ne_eqb c 0 (λ e. omega arith))
-held-lock c Lmode.L1 (Client d) a = refl
+held-lock c Lmode.L0 None a = sym (ne_eqb c 0 (λ e. omega arith))
+held-lock c Lmode.L0 (Some d) a = refl
+held-lock c Lmode.L1 None a = sym (ne_eqb c 0 (λ e. omega arith))
+held-lock c Lmode.L1 (Some d) a = refl
 
 pub held-is : (c : ℕ) (x : Node) → 1 ≤ c → Node.held_by c x ≡ held_by c (lock_in x)
 held-is c x a = held-lock c x.lmode x.holder a
 
-l1-lock : (c : ℕ) (l : Lmode) (h : Holder) → (Node.is_l1 l && is_holder c h) ≡ true → lock_of l h ≡ L1 c
+l1-lock : (c : ℕ) (l : Lmode) (h : Option ℕ) → (Node.is_l1 l && is_holder c h) ≡ true → lock_of l h ≡ L1 c
 l1-lock c Lmode.Unl h e = clash e refl
 l1-lock c Lmode.Exp h e = clash e refl
 l1-lock c Lmode.L0 h e = clash e refl
-l1-lock c Lmode.L1 Nobody e = clash e refl
-l1-lock c Lmode.L1 (Client d) e = ap L1 (sym (eqb-true c d e))
+l1-lock c Lmode.L1 None e = clash e refl
+l1-lock c Lmode.L1 (Some d) e = ap L1 (sym (eqb-true c d e))
 
 pub l1-is : (c : ℕ) (x : Node) → Node.held_at_l1 c x ≡ true → lock_in x ≡ L1 c
 l1-is c x e = l1-lock c x.lmode x.holder e
 
-unl-lock : (l : Lmode) (h : Holder) → Node.is_unl l ≡ is_unl (lock_of l h)
+unl-lock : (l : Lmode) (h : Option ℕ) → Node.is_unl l ≡ is_unl (lock_of l h)
 unl-lock Lmode.Unl h = refl
 unl-lock Lmode.L0 h = refl
 unl-lock Lmode.L1 h = refl
@@ -205,7 +204,7 @@ unl-lock Lmode.Exp h = refl
 pub unl-is : (x : Node) → Node.is_unl x.lmode ≡ is_unl (lock_in x)
 unl-is x = unl-lock x.lmode x.holder
 
-l0-lock : (l : Lmode) (h : Holder) → Node.is_l0 l ≡ is_l0 (lock_of l h)
+l0-lock : (l : Lmode) (h : Option ℕ) → Node.is_l0 l ≡ is_l0 (lock_of l h)
 l0-lock Lmode.Unl h = refl
 l0-lock Lmode.L0 h = refl
 l0-lock Lmode.L1 h = refl
@@ -214,7 +213,7 @@ l0-lock Lmode.Exp h = refl
 pub l0-is : (x : Node) → Node.is_l0 x.lmode ≡ is_l0 (lock_in x)
 l0-is x = l0-lock x.lmode x.holder
 
-locked-lock : (l : Lmode) (h : Holder) → (Node.is_l0 l || Node.is_l1 l) ≡ is_locked (lock_of l h)
+locked-lock : (l : Lmode) (h : Option ℕ) → (Node.is_l0 l || Node.is_l1 l) ≡ is_locked (lock_of l h)
 locked-lock Lmode.Unl h = refl
 locked-lock Lmode.L0 h = refl
 locked-lock Lmode.L1 h = refl
@@ -223,7 +222,7 @@ locked-lock Lmode.Exp h = refl
 pub locked-is : (x : Node) → (Node.is_l0 x.lmode || Node.is_l1 x.lmode) ≡ is_locked (lock_in x)
 locked-is x = locked-lock x.lmode x.holder
 
-exp-lock : (l : Lmode) (h : Holder) → Node.is_exp l ≡ is_exp (lock_of l h)
+exp-lock : (l : Lmode) (h : Option ℕ) → Node.is_exp l ≡ is_exp (lock_of l h)
 exp-lock Lmode.Unl h = refl
 exp-lock Lmode.L0 h = refl
 exp-lock Lmode.L1 h = refl

@@ -2,8 +2,7 @@
 -- A history lists the calls that were made, the latest first. What is computed from it (swaps, reports) stands in the order of the list of calls,
 -- over the whole list or since the last finished rebuild. Sizes are those that the list began with. Quotes are document 01's but where marked.
 -- Assumes nothing.
-use Rattle.std.specs.Prelude.{Bool, true, false, cond, ◌||◌, List, [], ◌∷◌, ◌++◌, ℕ, suc, ◌*◌, eqb, length, replicate}
-use Rattle.std.proofs.Math.Option.{Option, none, some}
+use Rattle.std.specs.Prelude.{Bool, true, false, cond, ◌||◌, List, [], ◌∷◌, ◌++◌, ℕ, suc, ◌*◌, eqb, length, replicate, Option, None, Some}
 use Rattle.records.specs.declared.Sizes.{Sizes}
 use Rattle.records.specs.declared.NodeCall.{NodeCall}
 use Rattle.records.specs.declared.NodeCall.TheVariants.{Add, Check}
@@ -71,19 +70,19 @@ is_done (Refused why) = false
 abbrev pub count_settle : ℕ → Kind → Option ℕ → Option ℕ
 count_settle c (SwapInto d i value) count = count
 count_settle c (AddBy d) count = count
-count_settle c (PickBy d) count = cond (eqb c d) (some 0) count
-count_settle c (SettleBy d) none = none
-count_settle c (SettleBy d) (some count) = cond (eqb c d) (some (suc count)) (some count)
+count_settle c (PickBy d) count = cond (eqb c d) (Some 0) count
+count_settle c (SettleBy d) None = None
+count_settle c (SettleBy d) (Some count) = cond (eqb c d) (Some (suc count)) (Some count)
 count_settle c Failure count = count
 count_settle c Other count = count
 
 unfoldable pub settles : ℕ → List Event → Option ℕ
-settles c [] = none
+settles c [] = None
 settles c (e ∷ past) = count_settle c (happened e) (settles c past)
 
 abbrev pub is_count : ℕ → Option ℕ → Bool
-is_count n none = false
-is_count n (some count) = eqb count n
+is_count n None = false
+is_count n (Some count) = eqb count n
 
 -- n after these calls, where it was n before them. No call changes it
 unfoldable pub nodes_at : ℕ → List Event → ℕ
@@ -129,7 +128,7 @@ write_at i place Other = []
 
 -- the last write of client c, into any position: the call made at this place if it is one, or else the last one before it
 abbrev pub write_by : ℕ → ℕ → Kind → Option Written → Option Written
-write_by c place (SwapInto d i value) last = cond (eqb c d) (some (record { position = i; value = value; place = place })) last
+write_by c place (SwapInto d i value) last = cond (eqb c d) (Some (record { position = i; value = value; place = place })) last
 write_by c place (AddBy d) last = last
 write_by c place (PickBy d) last = last
 write_by c place (SettleBy d) last = last
@@ -138,12 +137,12 @@ write_by c place Other last = last
 
 -- "the last accepted swap of the same client"
 unfoldable pub last_swap : ℕ → List Event → Option Written
-last_swap c [] = none
+last_swap c [] = None
 last_swap c (e ∷ past) = write_by c (length past) (happened e) (last_swap c past)
 
 abbrev pub if_at : ℕ → Option Written → List Written
-if_at i none = []
-if_at i (some write) = cond (eqb i write.position) (write ∷ []) []
+if_at i None = []
+if_at i (Some write) = cond (eqb i write.position) (write ∷ []) []
 
 -- "the answer Done reports the last accepted swap of the same client": the write into position i that a call reports, if it reports one
 abbrev pub report_by : ℕ → Kind → Bool → List Event → List Written

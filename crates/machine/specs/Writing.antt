@@ -5,13 +5,10 @@
 --     check, sweep   the node's record, the client's
 --     drop           the client's record
 -- Assumes nothing.
-use Rattle.std.specs.Prelude.{Bool, cond, ◌&&◌, ◌||◌, not, List, ℕ, ◌+◌, ◌-◌, eqb, leb, ltb, length}
-use Rattle.std.proofs.Math.Option.{Option, none, some}
+use Rattle.std.specs.Prelude.{Bool, cond, ◌&&◌, ◌||◌, not, List, ℕ, ◌+◌, ◌-◌, eqb, leb, ltb, length, Option, None, Some}
 use Rattle.blocks.specs.Blocks.{block, set_block, difference, add_times}
 use Rattle.code.specs.Code.{coefficient}
 use Rattle.code.specs.Decode.{NodeSet, has, no_nodes, including, excluding, each}
-use Rattle.entries.specs.declared.Previous.{Previous}
-use Rattle.entries.specs.declared.Previous.TheVariants.{Nothing, Id}
 use Rattle.entries.specs.declared.WriteId.{WriteId}
 use Rattle.entries.specs.Entries.{Entry, is_listed, is_recent_in, previous_recent, last_recent, discard, mark_old, entry_limit, finished_limit, write_limit}
 use Rattle.records.specs.declared.Sizes.{Sizes}
@@ -40,12 +37,12 @@ needing met l rest = guard (not met) (wrong_mode l.node) l rest
 -- A swap's and an add's tests past 1 are decided by the two records alone, and stand apart from what the call does. "The lowest applicable number
 -- wins": a chain of tests, in the order of their numbers, yields the refusal of the first that holds, or none
 abbrev pub test : Bool → Refusal → Option Refusal → Option Refusal
-test holds why rest = cond holds (some why) rest
+test holds why rest = cond holds (Some why) rest
 
 -- refused, a call leaves all unchanged; else it has its effect
 abbrev pub unless : Option Refusal → Local → Outcome Local → Outcome Local
-unless none l effect = effect
-unless (some why) l effect = refused why l
+unless None l effect = effect
+unless (Some why) l effect = refused why l
 
 -- "The next write number, from 0, is used, the id entered as recent"
 abbrev pub new_id : ℕ → ℕ → Client → WriteId
@@ -74,7 +71,7 @@ swap_tests z c i node client =
     (test (not (is_free node)) (wrong_mode node)
     (test (leb entry_limit (length node.entries) || leb finished_limit (length client.finished)) Full
     (test (leb write_limit client.next.0) Exhausted
-    none))))
+    None))))
 
 unfoldable pub swap : Sizes → ℕ → ℕ → List ℕ → Local → Outcome Local
 swap z c i value l =
@@ -95,7 +92,7 @@ completes z j write = is_complete z write.id.position (including j write.done)
 
 abbrev pub joined : Sizes → ℕ → Write → Client → Client
 joined z j write client =
-    cond (completes z j write) (finished_write write.id client) (with_hand (some (with_done write (including j write.done))) client)
+    cond (completes z j write) (finished_write write.id client) (with_hand (Some (with_done write (including j write.done))) client)
 
 -- "Then c(j,i) times the difference is added and the id entered"
 abbrev pub added_to : Sizes → ℕ → ℕ → Write → Local → Local
@@ -111,24 +108,24 @@ added_to z c j write l =
 
 -- "the answer is Done". Without a write in hand the tests refuse the call
 abbrev pub added : Sizes → ℕ → ℕ → Option Write → Local → Outcome Local
-added z c j none l = refused OutOfPhase l
-added z c j (some write) l = answered (cond (completes z j write) Done Added) (added_to z c j write l)
+added z c j None l = refused OutOfPhase l
+added z c j (Some write) l = answered (cond (completes z j write) Done Added) (added_to z c j write l)
 
 -- "The previous id, if any, must be listed there, recent or old."
-abbrev pub previous_test : Previous → Node → Option Refusal → Option Refusal
-previous_test Nothing node rest = rest
-previous_test (Id id) node rest = test (not (is_listed id node.entries)) (BeforePrevious id) rest
+abbrev pub previous_test : Option WriteId → Node → Option Refusal → Option Refusal
+previous_test None node rest = rest
+previous_test (Some id) node rest = test (not (is_listed id node.entries)) (BeforePrevious id) rest
 
 -- "3: .. add .. without one; add at a done node"; "needs NORM, lmode UNL or L0, and node epoch at most the write's"
 unfoldable pub write_tests : ℕ → Option Write → Node → Option Refusal
-write_tests j none node = some OutOfPhase
-write_tests j (some write) node =
+write_tests j None node = Some OutOfPhase
+write_tests j (Some write) node =
     test (has write.done j) OutOfPhase
     (test (not (takes_add node)) (wrong_mode node)
     (test (ltb write.epoch.0 node.epoch.0) (OldEpoch node.epoch)
     (previous_test write.previous node
     (test (leb entry_limit (length node.entries)) Full
-    none))))
+    None))))
 
 -- "Add c, j (j redundant)"
 unfoldable pub add_tests : Sizes → ℕ → ℕ → Node → Client → Option Refusal
@@ -141,20 +138,20 @@ add z c j l =
     (added z c j l.client.hand l))
 
 abbrev pub forgetting : Write → Write
-forgetting write = record { id = write.id; previous = Nothing; epoch = write.epoch; done = write.done }
+forgetting write = record { id = write.id; previous = None; epoch = write.epoch; done = write.done }
 
 abbrev pub with_client : Client → Local → Local
 with_client client l = record { node = l.node; client = client; blocks = l.blocks; differences = l.differences }
 
 unfoldable pub check_write : ℕ → Option Write → Local → Outcome Local
-check_write j none l = refused OutOfPhase l
-check_write j (some write) l =
+check_write j None l = refused OutOfPhase l
+check_write j (Some write) l =
     guard (not (has write.done j)) OutOfPhase l
     (cond (not (is_recent_in write.id l.node.entries))
-    (answered CheckInit (with_client (with_hand (some (with_done write (excluding j write.done))) l.client) l))
+    (answered CheckInit (with_client (with_hand (Some (with_done write (excluding j write.done))) l.client) l))
     (cond (previous_recent write.previous l.node.entries)
     (answered NoChange l)
-    (answered CheckGc (with_client (with_hand (some (forgetting write)) l.client) l))))
+    (answered CheckGc (with_client (with_hand (Some (forgetting write)) l.client) l))))
 
 -- "Check c, j (j in done): if the own id isn't recent at j, j leaves done (INIT). Else if there is no previous id, or it isn't recent there, it
 -- becomes none (GC). Else NoChange."
@@ -170,7 +167,7 @@ drop z c l =
     guard (not (sizes_within z && client_within z l.client)) OutOfLimits l
     (guard (not (is_client z c)) OutOfRange l
     (guard (not (has_write l.client.hand)) OutOfPhase l
-    (answered Accepted (with_client (with_hand none l.client) l))))
+    (answered Accepted (with_client (with_hand None l.client) l))))
 
 -- "A round goes over nodes 1 to n .. then over 1 to n": the node of the round's next sweep
 abbrev pub sweep_node : Sizes → Client → ℕ

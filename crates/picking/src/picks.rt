@@ -12,7 +12,7 @@ use coding::recover_table;
 use entries::Epoch;
 use rebuild::is_picking;
 use rebuild::tables::tabled_entrance;
-use records::{ClientRecord, NodeAnswer, NodeRecord, Refusal, Sizes};
+use records::{ClientRecord, NodeRecord, Refusal, Sizes};
 use stripe::{Change, Nodes};
 
 impl Picked {
@@ -93,8 +93,8 @@ pub fn pick(
 {
     let seen = nodes.see(z, c);
     match tabled_entrance(z, c, seen, client, blocks, spare) {
-        NodeAnswer::Refused(why) => Picked::refused(client, why),
-        NodeAnswer::Accepted => {
+        Err(why) => Picked::refused(client, why),
+        Ok(()) => {
             if is_picking(client) {
                 pick_now(z, c, nodes, client, blocks, spare)
             } else {

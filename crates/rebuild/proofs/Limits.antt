@@ -1,4 +1,5 @@
 -- The tests that every call begins with: what is known past them, and what the call then is. Assumes nothing.
+use Rattle.std.specs.Prelude.{Ok, Err}
 use mathlib.Core.Path.{◌≡◌, refl, sym, ap, ◌∙◌}
 use mathlib.Core.Bool.{Bool, true, false, cond, ◌&&◌, not}
 use mathlib.Core.List.{List}
@@ -10,10 +11,9 @@ use Rattle.code.specs.Code.{code_sizes}
 use Rattle.code.proofs.Sizes.{sizes-of}
 use Rattle.machine.specs.Stripe.{Outcome, refused, guard, nodes_fit}
 use Rattle.machine.specs.Rebuild.{out_of_limits}
+use Rattle.records.specs.NodeSteps.{NodeAnswer}
 use Rattle.records.specs.declared.Sizes.{Sizes}
 use Rattle.records.specs.declared.ClientRecord.{ClientRecord}
-use Rattle.records.specs.declared.NodeAnswer.{NodeAnswer}
-use Rattle.records.specs.declared.NodeAnswer.TheVariants.{Accepted, Refused}
 use Rattle.records.specs.declared.Refusal.{Refusal}
 use Rattle.records.specs.declared.Refusal.TheVariants.{OutOfLimits, OutOfRange}
 use Rattle.records.specs.Sizes.{sizes_within, is_client}
@@ -44,19 +44,19 @@ sizes-known z e =
 -- ---- the two tests
 
 abbrev pub tests : Bool → Bool → NodeAnswer
-tests one two = cond one (Refused OutOfLimits) (cond two (Refused OutOfRange) Accepted)
+tests one two = cond one (Err OutOfLimits) (cond two (Err OutOfRange) (Ok tt))
 
-fits : (one two : Bool) → tests (not one) two ≡ Accepted → one ≡ true
+fits : (one two : Bool) → tests (not one) two ≡ Ok tt → one ≡ true
 fits true two e = refl
 fits false two e = cc
 
-ranges : (one two : Bool) → tests one (not two) ≡ Accepted → two ≡ true
+ranges : (one two : Bool) → tests one (not two) ≡ Ok tt → two ≡ true
 ranges true two e = cc
 ranges false true e = refl
 ranges false false e = cc
 
 -- past them the records are within their limits
-pub admitted : {z : Sizes} (c : ℕ) {s : Seen} {y : ClientRecord} {a : NodeAnswer} → a ≡ entrance z c s y → a ≡ Accepted → Admitted z c s y
+pub admitted : {z : Sizes} (c : ℕ) {s : Seen} {y : ClientRecord} {a : NodeAnswer} → a ≡ entrance z c s y → a ≡ Ok tt → Admitted z c s y
 admitted {z} c {s} {y} e q =
     let all : (sizes_within z && (s.within && client_within z (client_of y))) ≡ true = fits _ (not (is_client z c)) (sym e ∙ q) in
     let records = and_right (sizes_within z) _ all in
@@ -78,13 +78,13 @@ limits-seen {z} {c} {nodes} {s} sees y blocks spare = ap not (by (sizes_within z
 
 -- the call with `rest` after them
 module _ {S : Type 0} (s : S) (rest : Outcome S) where
-  pub passed : (one two : Bool) → tests one two ≡ Accepted → guard one OutOfLimits s (guard two OutOfRange s rest) ≡ rest
+  pub passed : (one two : Bool) → tests one two ≡ Ok tt → guard one OutOfLimits s (guard two OutOfRange s rest) ≡ rest
   unfolding guard
   passed true two e = cc
   passed false true e = cc
   passed false false e = refl
 
-  pub failed : (why : Refusal) (one two : Bool) → tests one two ≡ Refused why → guard one OutOfLimits s (guard two OutOfRange s rest) ≡ refused why s
+  pub failed : (why : Refusal) (one two : Bool) → tests one two ≡ Err why → guard one OutOfLimits s (guard two OutOfRange s rest) ≡ refused why s
   unfolding guard
   failed why true two e = cc
   failed why false true e = cc

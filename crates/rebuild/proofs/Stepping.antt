@@ -1,4 +1,5 @@
 -- The returns of the calls that step one node's record. Assumes nothing.
+use Rattle.std.specs.Prelude.{Ok, Err}
 use mathlib.Core.Path.{◌≡◌, refl, sym, ap, ◌∙◌}
 use mathlib.Core.Bool.{Bool, true, false, cond, not}
 use mathlib.Core.List.{List, []}
@@ -7,11 +8,10 @@ use Rattle.machine.specs.Stripe.{Outcome, Whole, answered, refused, guard, node_
 use Rattle.basics.specs.Lists.{set_at}
 use Rattle.machine.specs.Rebuild.{out_of_limits}
 use Rattle.machine.proofs.View.{set_same}
+use Rattle.records.specs.NodeSteps.{NodeAnswer}
 use Rattle.records.specs.declared.Sizes.{Sizes}
 use Rattle.records.specs.declared.NodeRecord.{NodeRecord}
 use Rattle.records.specs.declared.ClientRecord.{ClientRecord}
-use Rattle.records.specs.declared.NodeAnswer.{NodeAnswer}
-use Rattle.records.specs.declared.NodeAnswer.TheVariants as NodeAnswers
 use Rattle.records.specs.declared.Refusal.{Refusal}
 use Rattle.records.specs.declared.Refusal.TheVariants.{OutOfLimits, OutOfRange, NotHeld}
 use Rattle.records.specs.declared.Phase.{Phase}
@@ -31,11 +31,11 @@ use Rattle.rebuild.specs.Promises.{own, Told, Stepping, Admitted, entrance}
 use Rattle.rebuild.proofs.Limits.{passed, failed, limits-seen}
 
 -- what the node's answer tells of it
-pub held-accepted : (t : Bool) → cond (not t) (NodeAnswers.Refused NotHeld) NodeAnswers.Accepted ≡ NodeAnswers.Accepted → t ≡ true
+pub held-accepted : (t : Bool) → cond {A = NodeAnswer} (not t) (Err NotHeld) (Ok tt) ≡ Ok tt → t ≡ true
 held-accepted true e = refl
 held-accepted false e = cc
 
-pub held-refused : (t : Bool) {why : Refusal} → cond (not t) (NodeAnswers.Refused NotHeld) NodeAnswers.Accepted ≡ NodeAnswers.Refused why → t ≡ false
+pub held-refused : (t : Bool) {why : Refusal} → cond {A = NodeAnswer} (not t) (Err NotHeld) (Ok tt) ≡ Err why → t ≡ false
 held-refused true e = cc
 held-refused false e = refl
 
@@ -87,14 +87,14 @@ module _ {z : Sizes} {c : ℕ} {nodes : List Node} {s : Seen} {x : NodeRecord} {
 
   -- a call whose tests answered a
   module _ {a : NodeAnswer} (e : a ≡ entrance z c s y) {blocks spare : List ℕ} {r : Stepped} where
-    pub steps-turned : (rest : Outcome Whole) {why : Refusal} → a ≡ NodeAnswers.Refused why
+    pub steps-turned : (rest : Outcome Whole) {why : Refusal} → a ≡ Err why
         → r ≡ record { answer = Refused why; node = x; client = y; change = keep }
         → Stepping (called z c (whole nodes (client_of y) blocks spare) rest) nodes x y blocks spare r
     steps-turned rest {why} q is =
         let w = whole nodes (client_of y) blocks spare in
         steps-refused is (sym (failed w rest why (out_of_limits z w) (not (is_client z c)) (rw (← limits-seen t.sees y blocks spare) (sym e ∙ q))))
 
-    pub steps_on : {rest : Outcome Whole} → a ≡ NodeAnswers.Accepted → Stepping rest nodes x y blocks spare r
+    pub steps_on : {rest : Outcome Whole} → a ≡ Ok tt → Stepping rest nodes x y blocks spare r
         → Stepping (called z c (whole nodes (client_of y) blocks spare) rest) nodes x y blocks spare r
     steps_on {rest} q m =
         let w = whole nodes (client_of y) blocks spare in

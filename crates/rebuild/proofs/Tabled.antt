@@ -1,4 +1,5 @@
 -- The tests of pick and write, which are lent both tables: what is known past them, and the call on either side. Assumes nothing.
+use Rattle.std.specs.Prelude.{Ok, Err}
 use mathlib.Core.Path.{◌≡◌, refl, sym, ap, ◌∙◌}
 use mathlib.Core.Bool.{Bool, true, false, cond, ◌&&◌, ◌||◌, not}
 use mathlib.Core.List.{List}
@@ -9,10 +10,9 @@ use Rattle.basics.proofs.Tests.{and_left, and_right}
 use Rattle.machine.specs.Stripe.{Outcome, Whole, refused, guard, blocks_fit}
 use Rattle.machine.specs.Rebuild.{out_of_limits}
 use Rattle.basics.proofs.Tests.{or-none}
+use Rattle.records.specs.NodeSteps.{NodeAnswer}
 use Rattle.records.specs.declared.Sizes.{Sizes}
 use Rattle.records.specs.declared.ClientRecord.{ClientRecord}
-use Rattle.records.specs.declared.NodeAnswer.{NodeAnswer}
-use Rattle.records.specs.declared.NodeAnswer.TheVariants.{Accepted, Refused}
 use Rattle.records.specs.declared.Refusal.{Refusal}
 use Rattle.records.specs.declared.Refusal.TheVariants.{OutOfLimits, OutOfRange}
 use Rattle.records.specs.Sizes.{sizes_within, is_client}
@@ -26,7 +26,7 @@ use Rattle.rebuild.specs.Promises.{Admitted}
 use Rattle.rebuild.specs.Tables.{both_fit, tabled_entrance, Tables}
 use Rattle.rebuild.proofs.Limits.{tests, admitted, limits-seen, passed, failed}
 
-first-passed : (test : Bool) (rest : NodeAnswer) → cond test (Refused OutOfLimits) rest ≡ Accepted → test ≡ false
+first-passed : (test : Bool) (rest : NodeAnswer) → cond test (Err OutOfLimits) rest ≡ Ok tt → test ≡ false
 first-passed true rest e = cc
 first-passed false rest e = refl
 
@@ -35,7 +35,7 @@ abbrev called : Sizes → ℕ → Whole → Outcome Whole → Outcome Whole
 called z c w rest = guard (out_of_limits z w || not (both_fit z w.blocks w.spare)) OutOfLimits w (guard (not (is_client z c)) OutOfRange w rest)
 
 module _ (z : Sizes) (c : ℕ) (s : Seen) (y : ClientRecord) (blocks spare : List ℕ) {a : NodeAnswer} (e : a ≡ tabled_entrance z c s y blocks spare) where
-  module _ (q : a ≡ Accepted) where
+  module _ (q : a ≡ Ok tt) where
     inside : (not (sizes_within z && (s.within && client_within z (client_of y))) || not (both_fit z blocks spare)) ≡ false
     inside = first-passed _ _ (sym e ∙ q)
 
@@ -58,13 +58,13 @@ module _ (z : Sizes) (c : ℕ) (s : Seen) (y : ClientRecord) (blocks spare : Lis
         ≡ tests (out_of_limits z (whole nodes (client_of y) blocks spare) || not (both_fit z blocks spare)) (not (is_client z c))
     seen = ap (λ t. tests (t || not (both_fit z blocks spare)) (not (is_client z c))) (limits-seen sees y blocks spare)
 
-    pub tabled-failed : (rest : Outcome Whole) {why : Refusal} → a ≡ Refused why
+    pub tabled-failed : (rest : Outcome Whole) {why : Refusal} → a ≡ Err why
         → refused why (whole nodes (client_of y) blocks spare) ≡ called z c (whole nodes (client_of y) blocks spare) rest
     tabled-failed rest {why} q =
         let w = whole nodes (client_of y) blocks spare in
         sym (failed w rest why (out_of_limits z w || not (both_fit z blocks spare)) (not (is_client z c)) (sym seen ∙ sym e ∙ q))
 
-    pub tabled-passed : (rest : Outcome Whole) → a ≡ Accepted → rest ≡ called z c (whole nodes (client_of y) blocks spare) rest
+    pub tabled-passed : (rest : Outcome Whole) → a ≡ Ok tt → rest ≡ called z c (whole nodes (client_of y) blocks spare) rest
     tabled-passed rest q =
         let w = whole nodes (client_of y) blocks spare in
         sym (passed w rest (out_of_limits z w || not (both_fit z blocks spare)) (not (is_client z c)) (sym seen ∙ sym e ∙ q))
@@ -73,5 +73,5 @@ module _ (z : Sizes) (c : ℕ) (s : Seen) (y : ClientRecord) (blocks spare : Lis
 pub tabled-past : (z : Sizes) (c : ℕ) (s : Seen) (y : ClientRecord) (blocks spare : List ℕ) {nodes : List Node} → (sizes_within z ≡ true → Sees z c nodes s)
     → Admitted z c s y → Tables z blocks spare → (rest : Outcome Whole) → rest ≡ called z c (whole nodes (client_of y) blocks spare) rest
 tabled-past z c s y blocks spare sees a t rest =
-    tabled-passed z c s y blocks spare {a = Accepted}
+    tabled-passed z c s y blocks spare {a = Ok tt}
     (rw (a.sizes, a.nodes, a.client, a.number, eq-eqb (length blocks) (z.n * z.b) t.full, eq-eqb (length spare) (z.n * z.b) t.room)) sees rest refl

@@ -1,15 +1,14 @@
 -- What the contract of a call on the whole stripe says. The call steps one record, that of the node that the client's rebuild is at; it is told
 -- what was seen of all nodes, and says what becomes of the others. Assumes nothing.
-use Rattle.std.specs.Prelude.{Bool, cond, ◌&&◌, not, true, List, [], ◌≡◌, ℕ, eqb}
+use Rattle.std.specs.Prelude.{Bool, cond, ◌&&◌, not, true, List, [], ◌≡◌, ℕ, eqb, Ok, Err}
 use Rattle.machine.specs.Stripe as Stripe
 use Rattle.machine.specs.Stripe.{Outcome, Whole, answered, node_at}
 use Rattle.basics.specs.Lists.{set_at}
 use Rattle.machine.specs.Rebuild.{picks, phase_of, own_node, gone_on, lost, holding, lock_node}
+use Rattle.records.specs.NodeSteps.{NodeAnswer}
 use Rattle.records.specs.declared.Sizes.{Sizes}
 use Rattle.records.specs.declared.NodeRecord.{NodeRecord}
 use Rattle.records.specs.declared.ClientRecord.{ClientRecord}
-use Rattle.records.specs.declared.NodeAnswer.{NodeAnswer}
-use Rattle.records.specs.declared.NodeAnswer.TheVariants.{Accepted, Refused}
 use Rattle.records.specs.declared.Refusal.TheVariants.{OutOfLimits, OutOfRange, NotHeld}
 use Rattle.records.specs.Sizes.{sizes_within, is_client}
 use Rattle.records.specs.Node.{Node, held_by}
@@ -48,8 +47,8 @@ Steps call z c seen node client r =
 -- the tests that every call begins with: 1, then 2
 abbrev pub entrance : Sizes → ℕ → Seen → ClientRecord → NodeAnswer
 entrance z c seen client =
-    cond (not (sizes_within z && (seen.within && client_within z (client_of client)))) (Refused OutOfLimits)
-    (cond (not (is_client z c)) (Refused OutOfRange) Accepted)
+    cond (not (sizes_within z && (seen.within && client_within z (client_of client)))) (Err OutOfLimits)
+    (cond (not (is_client z c)) (Err OutOfRange) (Ok tt))
 
 -- what is known past them
 pub record Admitted (z : Sizes) (c : ℕ) (x : Seen) (y : ClientRecord) : Type 0 where

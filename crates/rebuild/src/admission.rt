@@ -11,7 +11,7 @@ ghost use Rattle.rebuild.specs.Promises.{Steps, entrance, not_held, at_own};
 
 use crate::Stepped;
 use calls::Answer;
-use records::{ClientRecord, NodeAnswer, NodeRecord, NodeStep, Refusal, Sizes};
+use records::{ClientRecord, NodeRecord, NodeStep, Refusal, Sizes};
 use stripe::{Change, Seen};
 
 impl Stepped {
@@ -54,16 +54,16 @@ fn is_within(z: Sizes, seen: Seen, client: ClientRecord) -> bool
 }
 
 // Whether the call goes on: 1, then 2.
-pub fn entrance(z: Sizes, c: u8, seen: Seen, client: ClientRecord) -> NodeAnswer
+pub fn entrance(z: Sizes, c: u8, seen: Seen, client: ClientRecord) -> Result<(), Refusal>
     ensures { result ≡ entrance z c seen client }
 {
     if !is_within(z, seen, client) {
-        return NodeAnswer::Refused(Refusal::OutOfLimits);
+        return Err(Refusal::OutOfLimits);
     }
     if z.is_client(c) {
-        NodeAnswer::Accepted
+        Ok(())
     } else {
-        NodeAnswer::Refused(Refusal::OutOfRange)
+        Err(Refusal::OutOfRange)
     }
 }
 
@@ -82,7 +82,7 @@ pub fn go_on(
 {
     let answer = step.answer;
     match answer {
-        NodeAnswer::Accepted => Stepped::answered(Answer::Accepted, step.node, client.advance(z.n)),
-        NodeAnswer::Refused(_) => Stepped::lost(z, c, seen, node, client),
+        Ok(()) => Stepped::answered(Answer::Accepted, step.node, client.advance(z.n)),
+        Err(_) => Stepped::lost(z, c, seen, node, client),
     }
 }

@@ -3,7 +3,7 @@ ghost use Rattle.std.specs.Prelude.{◌≡◌};
 ghost use Rattle.rebuild.specs.Tables.{tabled_entrance};
 
 use crate::admission::entrance;
-use records::{ClientRecord, NodeAnswer, Refusal, Sizes};
+use records::{ClientRecord, Refusal, Sizes};
 use stripe::Seen;
 
 // Whether the call goes on: 1, for the tables' lengths too, then 2.
@@ -14,17 +14,17 @@ pub fn tabled_entrance(
     client: ClientRecord,
     blocks: &[u8],
     spare: &[u8],
-) -> NodeAnswer
+) -> Result<(), Refusal>
     ensures { result ≡ tabled_entrance z c seen client blocks.now spare.now }
 {
     if !z.within() {
-        return NodeAnswer::Refused(Refusal::OutOfLimits);
+        return Err(Refusal::OutOfLimits);
     }
     if blocks.len() != z.n * z.b {
-        return NodeAnswer::Refused(Refusal::OutOfLimits);
+        return Err(Refusal::OutOfLimits);
     }
     if spare.len() != z.n * z.b {
-        return NodeAnswer::Refused(Refusal::OutOfLimits);
+        return Err(Refusal::OutOfLimits);
     }
     entrance(z, c, seen, client)
 }

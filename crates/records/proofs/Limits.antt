@@ -1,8 +1,8 @@
 -- The limits of a record's parts, by the tests of the code. Assumes nothing.
+use Rattle.std.specs.Prelude.{Option, None, Some}
 use mathlib.Core.Path.{◌≡◌, refl}
 use mathlib.Core.Bool.{Bool, true, false, ◌&&◌, ◌||◌, not, and_assoc}
 use mathlib.Core.List.{List}
-use mathlib.Core.Option.{Option, none, some}
 use Prim.Native.Nat.{ℕ, ◌≤◌, ◌<◌}
 use native.Mathlib.Omega.{arith}
 use lib.Dec.{leb}
@@ -18,7 +18,6 @@ use Rattle.entries.proofs.Lists.{entries-count}
 use Rattle.records.specs.declared.Sizes.{Sizes}
 use Rattle.records.specs.declared.Lmode.{Lmode}
 use Rattle.records.specs.declared.Lmode.TheVariants.{Unl, L0, L1, Exp}
-use Rattle.records.specs.declared.Holder.TheVariants as Holder
 use Rattle.records.specs.declared.NodeRecord.{NodeRecord}
 use Rattle.records.specs.Sizes.{node_limit, sizes_within, is_client}
 use Rattle.records.specs.Node.{is_l0, is_l1, holder_within, node_within}
@@ -27,13 +26,13 @@ use Rattle.records.specs.ClientSteps.{lists_within}
 use Rattle.records.specs.View.{node_of}
 
 -- no holder where nobody can be one; a client where there is one
-pub nobody-within : (z : Sizes) (l : Lmode) → not (is_l0 l || is_l1 l) ≡ holder_within z l Holder.Nobody
+pub nobody-within : (z : Sizes) (l : Lmode) → not (is_l0 l || is_l1 l) ≡ holder_within z l None
 nobody-within z Unl = refl
 nobody-within z L0 = refl
 nobody-within z L1 = refl
 nobody-within z Exp = refl
 
-pub client-within : (z : Sizes) (l : Lmode) (c : ℕ) → ((is_l0 l || is_l1 l) && is_client z c) ≡ holder_within z l (Holder.Client c)
+pub client-within : (z : Sizes) (l : Lmode) (c : ℕ) → ((is_l0 l || is_l1 l) && is_client z c) ≡ holder_within z l (Some c)
 client-within z Unl c = refl
 client-within z L0 c = refl
 client-within z L1 c = refl
@@ -47,8 +46,8 @@ nodes-few z e = omega (arith, sizes-of z.k z.n z.b (and_left (code_sizes z.k z.n
 
 -- within its limits a hand leaves at most 8 finished ids
 hand-room : (z : Sizes) (hand : Option Write) (ids : List WriteId) → hand_within z hand ids ≡ true → leb (length ids) finished_limit ≡ true
-hand-room z none ids e = e
-hand-room z (some w) ids e = le-leb (length ids) finished_limit (omega (arith, few))
+hand-room z None ids e = e
+hand-room z (Some w) ids e = le-leb (length ids) finished_limit (omega (arith, few))
   where
     few : length ids < finished_limit
     few = search (and_right, ltb-true)

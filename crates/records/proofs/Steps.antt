@@ -1,19 +1,18 @@
 -- The returns of a node's calls. Assumes nothing.
+use Rattle.std.specs.Prelude.{Ok, Err}
 use mathlib.Core.Path.{◌≡◌, refl, ◌∙◌}
 use Rattle.records.specs.declared.NodeRecord.{NodeRecord}
 use Rattle.records.specs.declared.NodeStep.{NodeStep}
-use Rattle.records.specs.declared.NodeAnswer.{NodeAnswer}
-use Rattle.records.specs.declared.NodeAnswer.TheVariants.{Accepted, Refused}
 use Rattle.records.specs.declared.Refusal.{Refusal}
 use Rattle.records.specs.Node.{Node}
-use Rattle.records.specs.NodeSteps.{MeetsAtNode}
+use Rattle.records.specs.NodeSteps.{NodeAnswer, MeetsAtNode}
 use Rattle.records.specs.View.{node_of}
 
 module _ {answer : NodeAnswer} {after : Node} {before : NodeRecord} {r : NodeStep} where
-  pub meets-refused : {why : Refusal} → r ≡ record { answer = Refused why; node = before } → Refused why ≡ answer → MeetsAtNode answer after before r
+  pub meets-refused : {why : Refusal} → r ≡ record { answer = Err why; node = before } → Err why ≡ answer → MeetsAtNode answer after before r
   meets-refused e q = rw e (record { answered = q; left = refl })
 
-  pub meets-accepted : {node : NodeRecord} → r ≡ record { answer = Accepted; node = node } → Accepted ≡ answer → node_of node ≡ after → MeetsAtNode answer after before r
+  pub meets-accepted : {node : NodeRecord} → r ≡ record { answer = Ok tt; node = node } → Ok tt ≡ answer → node_of node ≡ after → MeetsAtNode answer after before r
   meets-accepted e q n = rw e (record { answered = q; left = n })
 
   -- as a part of the call answered, which is what the whole answers here

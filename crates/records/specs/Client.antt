@@ -1,11 +1,9 @@
 -- Document 01, "Records": a client's record. Assumes nothing.
-use Rattle.std.specs.Prelude.{Bool, true, false, cond, ◌&&◌, ◌||◌, List, [], ◌∷◌, ◌++◌, ℕ, ◌+◌, ◌*◌, eqb, leb, ltb, length}
-use Rattle.std.proofs.Math.Option.{Option, none, some}
+use Rattle.std.specs.Prelude.{Bool, true, false, cond, ◌&&◌, ◌||◌, List, [], ◌∷◌, ◌++◌, ℕ, ◌+◌, ◌*◌, eqb, leb, ltb, length, Option, None, Some}
 use Rattle.code.specs.Decode.{NodeSet}
 use Rattle.entries.specs.declared.WriteId.{WriteId}
 use Rattle.entries.specs.declared.WriteNumber.{WriteNumber}
 use Rattle.entries.specs.declared.Epoch.{Epoch}
-use Rattle.entries.specs.declared.Previous.{Previous}
 use Rattle.entries.specs.Entries.{finished_limit, write_limit, id_within, ids_within, previous_within}
 use Rattle.records.specs.declared.Sizes.{Sizes}
 use Rattle.records.specs.declared.Lmode.{Lmode}
@@ -16,7 +14,7 @@ use Rattle.records.specs.Node.{set_within, epoch_limit, is_unl, is_exp}
 -- the difference is in the table of differences
 pub record Write : Type 0 where
   pub id : WriteId
-  pub previous : Previous
+  pub previous : Option WriteId
   pub epoch : Epoch
   pub done : NodeSet
 
@@ -41,11 +39,11 @@ pub record Client : Type 0 where
   pub next : WriteNumber
 
 abbrev pub fresh_client : Client
-fresh_client = record { hand = none; rebuild = NoRebuild; finished = []; moved = []; round = 0; next = record { 0 = 0 } }
+fresh_client = record { hand = None; rebuild = NoRebuild; finished = []; moved = []; round = 0; next = record { 0 = 0 } }
 
 -- "Client c stops: .. hand, rebuild, lists and round are empty; its write number stays"
 abbrev pub stopped : Client → Client
-stopped x = record { hand = none; rebuild = NoRebuild; finished = []; moved = []; round = 0; next = x.next }
+stopped x = record { hand = None; rebuild = NoRebuild; finished = []; moved = []; round = 0; next = x.next }
 
 abbrev pub with_hand : Option Write → Client → Client
 with_hand w x = record { hand = w; rebuild = x.rebuild; finished = x.finished; moved = x.moved; round = x.round; next = x.next }
@@ -56,12 +54,12 @@ with_rebuild r x = record { hand = x.hand; rebuild = r; finished = x.finished; m
 -- a new write in hand, with the next write number used
 abbrev pub began : Write → Client → Client
 began w x =
-    record { hand = some w; rebuild = x.rebuild; finished = x.finished; moved = x.moved; round = x.round; next = record { 0 = x.next.0 + 1 } }
+    record { hand = Some w; rebuild = x.rebuild; finished = x.finished; moved = x.moved; round = x.round; next = record { 0 = x.next.0 + 1 } }
 
 -- "the id joins the finished list and the write leaves the hand"
 abbrev pub finished_write : WriteId → Client → Client
 finished_write id x =
-    record { hand = none; rebuild = x.rebuild; finished = x.finished ++ (id ∷ []); moved = x.moved; round = x.round; next = x.next }
+    record { hand = None; rebuild = x.rebuild; finished = x.finished ++ (id ∷ []); moved = x.moved; round = x.round; next = x.next }
 
 -- one more sweep of the round; "At its end moved = finished, finished is empty"
 abbrev pub swept_on : ℕ → Client → Client
@@ -71,8 +69,8 @@ swept_on n x =
     (record { hand = x.hand; rebuild = x.rebuild; finished = x.finished; moved = x.moved; round = x.round + 1; next = x.next })
 
 abbrev pub has_write : Option Write → Bool
-has_write none = false
-has_write (some w) = true
+has_write None = false
+has_write (Some w) = true
 
 abbrev pub has_rebuild : Rebuild → Bool
 has_rebuild NoRebuild = false
@@ -123,8 +121,8 @@ next_rebuild n (Unlocking x) = cond (leb n x) NoRebuild (Unlocking (x + 1))
 
 -- "record .. outside the limits" (docs/DECISIONS.md); a write in hand leaves room for its own id in the finished list
 abbrev pub hand_within : Sizes → Option Write → List WriteId → Bool
-hand_within z none finished = leb (length finished) finished_limit
-hand_within z (some w) finished =
+hand_within z None finished = leb (length finished) finished_limit
+hand_within z (Some w) finished =
     id_within z.k z.m w.id &&
     (previous_within z.k z.m w.previous && (leb w.epoch.0 epoch_limit && (set_within z.n w.done && ltb (length finished) finished_limit)))
 

@@ -1,5 +1,5 @@
 -- Document 01, "Records": a node's record, and what the calls do to one record. Assumes nothing.
-use Rattle.std.specs.Prelude.{Bool, true, false, cond, ◌&&◌, ◌||◌, List, [], ℕ, ◌+◌, eqb, leb, length}
+use Rattle.std.specs.Prelude.{Bool, true, false, cond, ◌&&◌, ◌||◌, List, [], ℕ, ◌+◌, eqb, leb, length, Option, None, Some, unwrap_or}
 use Rattle.code.specs.Decode.{NodeSet, no_nodes}
 unfoldable pub use Rattle.code.specs.Decode.{set_within}
 use Rattle.entries.specs.declared.WriteId.{WriteId}
@@ -10,15 +10,13 @@ use Rattle.records.specs.declared.Opmode.{Opmode}
 use Rattle.records.specs.declared.Opmode.TheVariants.{Norm, Recons, Init}
 use Rattle.records.specs.declared.Lmode.{Lmode}
 use Rattle.records.specs.declared.Lmode.TheVariants.{Unl, L0, L1, Exp}
-use Rattle.records.specs.declared.Holder.{Holder}
-use Rattle.records.specs.declared.Holder.TheVariants.{Nobody, Client}
 use Rattle.records.specs.Sizes.{is_client}
 
 -- "A node has: block; opmode ..; lmode ..; holder ..; epoch; a set of nodes rset; and up to 16 entries". The block is in the block table
 pub record Node : Type 0 where
   pub opmode : Opmode
   pub lmode : Lmode
-  pub holder : Holder
+  pub holder : Option ℕ
   pub epoch : Epoch
   pub rset : NodeSet
   pub entries : List Entry
@@ -28,11 +26,11 @@ epoch_limit = 1000000
 
 -- "Fresh: zero blocks and counts, NORM, UNL, empty lists"
 abbrev pub fresh_node : Node
-fresh_node = record { opmode = Norm; lmode = Unl; holder = Nobody; epoch = record { 0 = 0 }; rset = no_nodes; entries = [] }
+fresh_node = record { opmode = Norm; lmode = Unl; holder = None; epoch = record { 0 = 0 }; rset = no_nodes; entries = [] }
 
 -- "Node j fails: .. INIT, UNL, no holder, epoch 0, no entries, no rset"
 abbrev pub failed_node : Node
-failed_node = record { opmode = Init; lmode = Unl; holder = Nobody; epoch = record { 0 = 0 }; rset = no_nodes; entries = [] }
+failed_node = record { opmode = Init; lmode = Unl; holder = None; epoch = record { 0 = 0 }; rset = no_nodes; entries = [] }
 
 abbrev pub is_norm : Opmode → Bool
 is_norm Norm = true
@@ -73,17 +71,13 @@ is_l1 L0 = false
 is_l1 L1 = true
 is_l1 Exp = false
 
-abbrev pub is_holder : ℕ → Holder → Bool
-is_holder c Nobody = false
-is_holder c (Client d) = eqb c d
+abbrev pub is_holder : ℕ → Option ℕ → Bool
+is_holder c None = false
+is_holder c (Some d) = eqb c d
 
 -- the client that holds a node, 0 if none does
-abbrev pub holder_number : Holder → ℕ
-holder_number Nobody = 0
-holder_number (Client c) = c
-
 abbrev pub holder_of : Node → ℕ
-holder_of x = holder_number x.holder
+holder_of x = unwrap_or x.holder 0
 
 -- "needs node i NORM and UNL"
 abbrev pub is_free : Node → Bool
@@ -104,7 +98,7 @@ held_at_l1 c x = is_l1 x.lmode && is_holder c x.holder
 abbrev pub with_entries : Node → List Entry → Node
 with_entries x es = record { opmode = x.opmode; lmode = x.lmode; holder = x.holder; epoch = x.epoch; rset = x.rset; entries = es }
 
-abbrev pub with_lmode : Node → Lmode → Holder → Node
+abbrev pub with_lmode : Node → Lmode → Option ℕ → Node
 with_lmode x l h = record { opmode = x.opmode; lmode = l; holder = h; epoch = x.epoch; rset = x.rset; entries = x.entries }
 
 -- "the id entered as recent"
@@ -113,20 +107,20 @@ entered id x = with_entries x (enter id x.entries)
 
 -- "goes from UNL or EXP to L1, held by c"; "redundant nodes go to L0"; "UNL"; "all that it held becomes EXP"
 abbrev pub locked_by : ℕ → Node → Node
-locked_by c x = with_lmode x L1 (Client c)
+locked_by c x = with_lmode x L1 (Some c)
 
 abbrev pub weakened_by : ℕ → Node → Node
-weakened_by c x = with_lmode x L0 (Client c)
+weakened_by c x = with_lmode x L0 (Some c)
 
 abbrev pub unlocked : Node → Node
-unlocked x = with_lmode x Unl Nobody
+unlocked x = with_lmode x Unl None
 
 abbrev pub expired_for : ℕ → Node → Node
-expired_for c x = cond (held_by c x) (with_lmode x Exp Nobody) x
+expired_for c x = cond (held_by c x) (with_lmode x Exp None) x
 
 -- "nodes still held by c get their old lmode", which was UNL or EXP
 abbrev pub given_back : ℕ → Lmode → Node → Node
-given_back c old x = cond (held_by c x) (with_lmode x old Nobody) x
+given_back c old x = cond (held_by c x) (with_lmode x old None) x
 
 -- "Write c: .. RECONS, epoch E, rset = the set"
 abbrev pub written : Epoch → NodeSet → Node → Node
@@ -145,15 +139,15 @@ abbrev pub is_due : Node → Bool
 is_due x = is_init x.opmode || some_due x.entries
 
 -- "record .. outside the limits" (docs/DECISIONS.md): a holder at L0 and L1 alone, and every number in its range
-abbrev pub holder_within : Sizes → Lmode → Holder → Bool
-holder_within z Unl Nobody = true
-holder_within z Unl (Client c) = false
-holder_within z L0 Nobody = false
-holder_within z L0 (Client c) = is_client z c
-holder_within z L1 Nobody = false
-holder_within z L1 (Client c) = is_client z c
-holder_within z Exp Nobody = true
-holder_within z Exp (Client c) = false
+abbrev pub holder_within : Sizes → Lmode → Option ℕ → Bool
+holder_within z Unl None = true
+holder_within z Unl (Some c) = false
+holder_within z L0 None = false
+holder_within z L0 (Some c) = is_client z c
+holder_within z L1 None = false
+holder_within z L1 (Some c) = is_client z c
+holder_within z Exp None = true
+holder_within z Exp (Some c) = false
 
 unfoldable pub node_within : Sizes → Node → Bool
 node_within z x =

@@ -1,6 +1,5 @@
 -- How the records of the code are seen as those of document 01. Assumes nothing.
-use Rattle.std.specs.Prelude.{Bool, cond, List, ℕ, suc}
-use Rattle.std.proofs.Math.Option.{Option, none, some}
+use Rattle.std.specs.Prelude.{Bool, cond, List, ℕ, suc, Option, None, Some}
 use Rattle.basics.specs.Lists.{list_of}
 use Rattle.code.specs.declared.nodes.NodeSet.{NodeSet}
 use Rattle.code.specs.Decode.{has}
@@ -10,8 +9,6 @@ use Rattle.records.specs.declared.NodeRecord.{NodeRecord}
 use Rattle.records.specs.declared.Lmode.{Lmode}
 use Rattle.records.specs.declared.Lmode.TheVariants.{Unl, Exp}
 use Rattle.records.specs.declared.Write.{Write}
-use Rattle.records.specs.declared.Hand.{Hand}
-use Rattle.records.specs.declared.Hand.TheVariants.{Empty, Holding}
 use Rattle.records.specs.declared.Phase.{Phase}
 use Rattle.records.specs.declared.ClientRecord.{ClientRecord}
 use Rattle.records.specs.Client as Client
@@ -31,9 +28,9 @@ node_of x =
 abbrev pub write_of : Write → Client.Write
 write_of w = record { id = w.id; previous = w.previous; epoch = w.epoch; done = node_set_of w.done }
 
-abbrev pub hand_of : Hand → Option Client.Write
-hand_of Empty = none
-hand_of (Holding w) = some (write_of w)
+abbrev pub hand_of : Option Write → Option Client.Write
+hand_of None = None
+hand_of (Some w) = Some (write_of w)
 
 -- of the x nodes locked so far those in `expired` were EXP, the others UNL
 abbrev pub old_lmode : Bool → Lmode

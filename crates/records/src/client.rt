@@ -1,9 +1,8 @@
 // A client's record: each step takes it by value and hands it back.
-ghost use Rattle.std.specs.Prelude.{true, false, ◌||◌, ◌≡◌, ◌+◌, ◌*◌, ◌<◌, ◌≤◌, ltb, length};
-ghost use Rattle.std.proofs.Math.Option.{none, some};
+ghost use Rattle.std.specs.Prelude.{true, false, ◌||◌, ◌≡◌, ◌+◌, ◌*◌, ◌<◌, ◌≤◌, ltb, length, None, Some};
 ghost use Rattle.code.specs.Decode.{no_nodes, including, excluding};
 ghost use Rattle.code.specs.View.{node_set_of};
-ghost use Rattle.entries.specs.Entries.{write_limit, finished_limit};
+ghost use Rattle.entries.specs.Entries.{write_limit, finished_limit, previous_within};
 ghost use Rattle.entries.specs.View.{ids_of};
 ghost use Rattle.records.specs.Sizes.{data_limit, node_limit, sizes_within};
 ghost use Rattle.records.specs.Node.{is_l0, is_l1};
@@ -11,13 +10,13 @@ ghost use Rattle.records.specs.Client.{NoRebuild, Picking, Writing, fresh_client
 ghost use Rattle.records.specs.ClientSteps.{lists_within, idle_client};
 ghost use Rattle.records.specs.View.{write_of, hand_of, old_lmodes, rebuild_of, client_of};
 
-use crate::{ClientRecord, Hand, Lmode, NodeRecord, Phase, Sizes, Write};
+use crate::{ClientRecord, Lmode, NodeRecord, Phase, Sizes, Write};
 use code::NodeSet;
-use entries::{Epoch, Ids, Previous, WriteId, WriteNumber};
+use entries::{Epoch, Ids, WriteId, WriteNumber};
 
 impl Write {
     // Done at its own position alone.
-    pub fn new(id: WriteId, previous: Previous, epoch: Epoch) -> Self
+    pub fn new(id: WriteId, previous: Option<WriteId>, epoch: Epoch) -> Self
         ensures { write_of result ≡ record { id = id; previous = previous; epoch = epoch; done = including id.position no_nodes } }
     {
         let done = NodeSet::none().with(id.position as usize);
@@ -38,28 +37,22 @@ impl Write {
         write
     }
 
+    fn is_previous_within(self, z: Sizes) -> bool
+        ensures { result ≡ previous_within z.k z.m self.previous }
+    {
+        self.previous.is_none_or(|id| id.is_within(z.k, z.m))
+    }
+
     // A write in hand leaves room for its own id in the finished list.
     fn is_within(self, finished: Ids, z: Sizes) -> bool
-        ensures { result ≡ hand_within z (some (write_of self)) (ids_of finished) }
+        ensures { result ≡ hand_within z (Some (write_of self)) (ids_of finished) }
     {
         let id = self.id;
-        let previous = self.previous;
         let done = self.done;
         id.is_within(z.k, z.m)
-            && (previous.is_within(z.k, z.m)
+            && (self.is_previous_within(z)
                 && (self.epoch.0 <= NodeRecord::EPOCHS
                     && (done.is_within(z.n) && finished.count < Ids::LIMIT)))
-    }
-}
-
-impl Hand {
-    fn is_within(self, finished: Ids, z: Sizes) -> bool
-        ensures { result ≡ hand_within z (hand_of self) (ids_of finished) }
-    {
-        match self {
-            Hand::Empty => finished.count <= Ids::LIMIT,
-            Hand::Holding(write) => write.is_within(finished, z),
-        }
     }
 }
 
@@ -183,12 +176,21 @@ impl ClientRecord {
     {
         let no_ids = Ids::none();
         ClientRecord {
-            hand: Hand::Empty,
+            hand: None,
             phase: Phase::NoRebuild,
             finished: no_ids,
             moved: no_ids,
             round: 0,
             next: next,
+        }
+    }
+
+    fn is_hand_within(self, z: Sizes) -> bool
+        ensures { result ≡ hand_within z (client_of self).hand (client_of self).finished }
+    {
+        match self.hand {
+            None => self.finished.count <= Ids::LIMIT,
+            Some(write) => write.is_within(self.finished, z),
         }
     }
 
@@ -205,20 +207,13 @@ impl ClientRecord {
         requires { sizes_within z ≡ true }
         ensures { result ≡ client_within z (client_of self) }
     {
-        let hand = self.hand;
-        let phase = self.phase;
-        let finished = self.finished;
-        hand.is_within(finished, z) && (phase.is_within(z) && self.are_lists_within(z))
+        self.is_hand_within(z) && (self.phase.is_within(z) && self.are_lists_within(z))
     }
 
     pub fn has_write(self) -> bool
         ensures { result ≡ has_write (client_of self).hand }
     {
-        let hand = self.hand;
-        match hand {
-            Hand::Empty => false,
-            Hand::Holding(_) => true,
-        }
+        self.hand.is_some()
     }
 
     pub fn has_rebuild(self) -> bool
@@ -237,7 +232,7 @@ impl ClientRecord {
 
     // ---- the write in hand
 
-    fn with_hand(self, hand: Hand) -> Self
+    fn with_hand(self, hand: Option<Write>) -> Self
         ensures { client_of result ≡ with_hand (hand_of hand) (client_of self) }
     {
         let phase = self.phase;
@@ -262,7 +257,7 @@ impl ClientRecord {
         let next = WriteNumber(self.next.0 + 1);
         let mut client = self;
         client.next = next;
-        client.with_hand(Hand::Holding(write))
+        client.with_hand(Some(write))
     }
 
     pub fn finish(self, id: WriteId) -> Self
@@ -275,41 +270,41 @@ impl ClientRecord {
     }
 
     pub fn drop_write(self) -> Self
-        ensures { client_of result ≡ with_hand none (client_of self) }
+        ensures { client_of result ≡ with_hand None (client_of self) }
     {
-        self.with_hand(Hand::Empty)
+        self.with_hand(None)
     }
 
     // The write in hand is done at node j too.
     pub fn join(self, write: Write, j: u8) -> Self
-        ensures { client_of result ≡ with_hand (some (record { id = write.id; previous = write.previous; epoch = write.epoch; done = including j (node_set_of write.done) })) (client_of self) }
+        ensures { client_of result ≡ with_hand (Some (record { id = write.id; previous = write.previous; epoch = write.epoch; done = including j (node_set_of write.done) })) (client_of self) }
     {
         let done = write.done;
-        self.with_hand(Hand::Holding(write.with_done(done.with(j as usize))))
+        self.with_hand(Some(write.with_done(done.with(j as usize))))
     }
 
     // The write in hand is done at node j no more: check's INIT.
     pub fn leave(self, write: Write, j: u8) -> Self
-        ensures { client_of result ≡ with_hand (some (record { id = write.id; previous = write.previous; epoch = write.epoch; done = excluding j (node_set_of write.done) })) (client_of self) }
+        ensures { client_of result ≡ with_hand (Some (record { id = write.id; previous = write.previous; epoch = write.epoch; done = excluding j (node_set_of write.done) })) (client_of self) }
     {
         let done = write.done;
-        self.with_hand(Hand::Holding(write.with_done(done.without(j as usize))))
+        self.with_hand(Some(write.with_done(done.without(j as usize))))
     }
 
     // The write in hand has no previous id any more: check's GC.
     pub fn forget(self, write: Write) -> Self
-        ensures { client_of result ≡ with_hand (some (record { id = write.id; previous = Previous.Nothing; epoch = write.epoch; done = node_set_of write.done })) (client_of self) }
+        ensures { client_of result ≡ with_hand (Some (record { id = write.id; previous = None; epoch = write.epoch; done = node_set_of write.done })) (client_of self) }
     {
         let id = write.id;
         let epoch = write.epoch;
         let done = write.done;
         let kept = Write {
             id: id,
-            previous: Previous::Nothing,
+            previous: None,
             epoch: epoch,
             done: done,
         };
-        self.with_hand(Hand::Holding(kept))
+        self.with_hand(Some(kept))
     }
 
     // ---- the sweep round

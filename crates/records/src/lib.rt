@@ -10,7 +10,7 @@ ghost use Rattle.std.specs.Prelude.{◌≡◌};
 ghost use Rattle.records.specs.Refusals.{number_of, returned_with};
 
 use code::NodeSet;
-use entries::{Entries, Epoch, Ids, Previous, WriteId, WriteNumber};
+use entries::{Entries, Epoch, Ids, WriteId, WriteNumber};
 
 #[derive(Clone, Copy)]
 pub enum Opmode {
@@ -27,18 +27,13 @@ pub enum Lmode {
     Exp,
 }
 
-#[derive(Clone, Copy)]
-pub enum Holder {
-    Nobody,
-    Client(u8),
-}
-
 // A node but for its block, which is in the block table.
 #[derive(Clone, Copy)]
 pub struct NodeRecord {
     pub opmode: Opmode,
     pub lmode: Lmode,
-    pub holder: Holder,
+    // The client that holds it.
+    pub holder: Option<u8>,
     pub epoch: Epoch,
     pub rset: NodeSet,
     pub entries: Entries,
@@ -48,15 +43,9 @@ pub struct NodeRecord {
 #[derive(Clone, Copy)]
 pub struct Write {
     pub id: WriteId,
-    pub previous: Previous,
+    pub previous: Option<WriteId>,
     pub epoch: Epoch,
     pub done: NodeSet,
-}
-
-#[derive(Clone, Copy)]
-pub enum Hand {
-    Empty,
-    Holding(Write),
 }
 
 // How far a rebuild is: how many nodes are locked, and which of them were EXP; the lowest node not tightened since the weaken, 0 if there is
@@ -74,7 +63,7 @@ pub enum Phase {
 // A client but for its difference, which is in the table of differences.
 #[derive(Clone, Copy)]
 pub struct ClientRecord {
-    pub hand: Hand,
+    pub hand: Option<Write>,
     pub phase: Phase,
     pub finished: Ids,
     pub moved: Ids,
@@ -148,16 +137,10 @@ pub enum Returned {
     SetSize(u8),
 }
 
-#[derive(Clone, Copy)]
-pub enum NodeAnswer {
-    Accepted,
-    Refused(Refusal),
-}
-
 // A node's answer, and its record after the call.
 #[derive(Clone, Copy)]
 pub struct NodeStep {
-    pub answer: NodeAnswer,
+    pub answer: Result<(), Refusal>,
     pub node: NodeRecord,
 }
 

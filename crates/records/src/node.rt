@@ -1,18 +1,15 @@
 // A node's record: each call takes it by value and hands it back.
-ghost use Rattle.std.specs.Prelude.{◌&&◌, ◌||◌, ◌≡◌, ◌<◌, ◌≤◌};
+ghost use Rattle.std.specs.Prelude.{◌&&◌, ◌||◌, ◌≡◌, ◌<◌, ◌≤◌, Ok, Err};
 ghost use Rattle.code.specs.View.{node_set_of};
 ghost use Rattle.entries.specs.Entries.{entry_limit, finished_limit, discard, mark_old};
 ghost use Rattle.entries.specs.View.{ids_of};
-ghost use Rattle.records.specs.Node.{epoch_limit, fresh_node, failed_node, is_norm, is_recons, is_init, is_unl, is_exp, is_l0, is_l1, is_holder, holder_number, holder_of, is_free, takes_add, held_by, held_at_l1, with_entries, with_lmode, entered, locked_by, weakened_by, unlocked, expired_for, given_back, written, settled, ticked, is_due, holder_within, node_within};
+ghost use Rattle.records.specs.Node.{epoch_limit, fresh_node, failed_node, is_norm, is_recons, is_init, is_unl, is_exp, is_l0, is_l1, is_holder, holder_of, is_free, takes_add, held_by, held_at_l1, with_entries, with_lmode, entered, locked_by, weakened_by, unlocked, expired_for, given_back, written, settled, ticked, is_due, holder_within, node_within};
 ghost use Rattle.records.specs.NodeSteps.{MeetsAtNode, empty_node, enter_answer, swap_answer, after_previous, add_answer, sweep_answer, lock_answer, held_answer, weaken_answer, tick_answer, check_answer};
 ghost use Rattle.records.specs.View.{node_of};
 
-use crate::{
-    CheckAnswer, CheckStep, Holder, Lmode, NodeAnswer, NodeRecord, NodeStep, Opmode, Refusal,
-    Sizes, Write,
-};
+use crate::{CheckAnswer, CheckStep, Lmode, NodeRecord, NodeStep, Opmode, Refusal, Sizes, Write};
 use code::NodeSet;
-use entries::{Entries, Epoch, Ids, Previous, WriteId};
+use entries::{Entries, Epoch, Ids, WriteId};
 
 impl Opmode {
     pub fn is_norm(self) -> bool
@@ -103,36 +100,6 @@ impl Lmode {
     }
 }
 
-impl Holder {
-    fn is(self, c: u8) -> bool
-        ensures { result ≡ is_holder c self }
-    {
-        match self {
-            Holder::Nobody => false,
-            Holder::Client(d) => c == d,
-        }
-    }
-
-    fn number(self) -> u8
-        ensures { result ≡ holder_number self }
-    {
-        match self {
-            Holder::Nobody => 0,
-            Holder::Client(c) => c,
-        }
-    }
-
-    // A holder at L0 and L1 alone, and it is one of the clients.
-    fn is_within(self, lmode: Lmode, z: Sizes) -> bool
-        ensures { result ≡ holder_within z lmode self }
-    {
-        match self {
-            Holder::Nobody => !lmode.is_locked(),
-            Holder::Client(c) => lmode.is_locked() && z.is_client(c),
-        }
-    }
-}
-
 impl NodeRecord {
     pub const EPOCHS: u32 = 1_000_000;
 
@@ -157,7 +124,7 @@ impl NodeRecord {
         NodeRecord {
             opmode: opmode,
             lmode: Lmode::Unl,
-            holder: Holder::Nobody,
+            holder: None,
             epoch: Epoch(0),
             rset: rset,
             entries: entries,
@@ -180,28 +147,29 @@ impl NodeRecord {
         opmode.is_norm() && lmode.takes_add()
     }
 
+    fn has_holder(self, c: u8) -> bool
+        ensures { result ≡ is_holder c self.holder }
+    {
+        self.holder == Some(c)
+    }
+
     pub fn held_by(self, c: u8) -> bool
         ensures { result ≡ held_by c (node_of self) }
     {
-        let lmode = self.lmode;
-        let holder = self.holder;
-        lmode.is_locked() && holder.is(c)
+        self.lmode.is_locked() && self.has_holder(c)
     }
 
     pub fn held_at_l1(self, c: u8) -> bool
         ensures { result ≡ held_at_l1 c (node_of self) }
     {
-        let lmode = self.lmode;
-        let holder = self.holder;
-        lmode.is_l1() && holder.is(c)
+        self.lmode.is_l1() && self.has_holder(c)
     }
 
     // The client that holds it, 0 if none does.
     pub fn holder_number(self) -> u8
         ensures { result ≡ holder_of (node_of self) }
     {
-        let holder = self.holder;
-        holder.number()
+        self.holder.unwrap_or(0)
     }
 
     pub fn is_due(self) -> bool
@@ -212,39 +180,46 @@ impl NodeRecord {
         opmode.is_init() || self.entries.has_due()
     }
 
+    // A holder at L0 and L1 alone, and it is one of the clients.
+    fn is_holder_within(self, z: Sizes) -> bool
+        ensures { result ≡ holder_within z self.lmode self.holder }
+    {
+        match self.holder {
+            None => !self.lmode.is_locked(),
+            Some(c) => self.lmode.is_locked() && z.is_client(c),
+        }
+    }
+
     pub fn is_within(self, z: Sizes) -> bool
         ensures { result ≡ node_within z (node_of self) }
     {
-        let lmode = self.lmode;
-        let holder = self.holder;
-        let rset = self.rset;
-        holder.is_within(lmode, z)
+        self.is_holder_within(z)
             && (self.epoch.0 <= NodeRecord::EPOCHS
-                && (rset.is_within(z.n) && self.entries.is_within(z.k, z.m)))
+                && (self.rset.is_within(z.n) && self.entries.is_within(z.k, z.m)))
     }
 
     // ---- answers
 
     fn accepted(self) -> NodeStep
-        ensures { result ≡ record { answer = NodeAnswer.Accepted; node = self } }
+        ensures { result ≡ record { answer = Ok tt; node = self } }
     {
         NodeStep {
-            answer: NodeAnswer::Accepted,
+            answer: Ok(()),
             node: self,
         }
     }
 
     fn refused(self, why: Refusal) -> NodeStep
-        ensures { result ≡ record { answer = NodeAnswer.Refused why; node = self } }
+        ensures { result ≡ record { answer = Err why; node = self } }
     {
         NodeStep {
-            answer: NodeAnswer::Refused(why),
+            answer: Err(why),
             node: self,
         }
     }
 
     fn wrong_mode(self) -> NodeStep
-        ensures { result ≡ record { answer = NodeAnswer.Refused (Refusal.WrongMode self.opmode self.lmode); node = self } }
+        ensures { result ≡ record { answer = Err (Refusal.WrongMode self.opmode self.lmode); node = self } }
     {
         let opmode = self.opmode;
         let lmode = self.lmode;
@@ -276,13 +251,13 @@ impl NodeRecord {
     }
 
     // The id entered, if the previous one is listed.
-    fn enter_after(self, previous: Previous, id: WriteId) -> NodeStep
+    fn enter_after(self, previous: Option<WriteId>, id: WriteId) -> NodeStep
         requires { self.entries.count ≤ entry_limit }
         ensures { MeetsAtNode (after_previous previous (node_of self) (enter_answer (node_of self))) (entered id (node_of self)) self result }
     {
         match previous {
-            Previous::Nothing => self.enter(id),
-            Previous::Id(before) => {
+            None => self.enter(id),
+            Some(before) => {
                 if self.entries.has(before) {
                     self.enter(id)
                 } else {
@@ -362,7 +337,7 @@ impl NodeRecord {
 
     // ---- rebuild
 
-    fn with_lmode(self, lmode: Lmode, holder: Holder) -> Self
+    fn with_lmode(self, lmode: Lmode, holder: Option<u8>) -> Self
         ensures { node_of result ≡ with_lmode (node_of self) lmode holder }
     {
         let opmode = self.opmode;
@@ -422,14 +397,14 @@ impl NodeRecord {
 
     // All that c held becomes EXP.
     pub fn expire(self, c: u8) -> NodeStep
-        ensures { MeetsAtNode NodeAnswer.Accepted (expired_for c (node_of self)) self result }
+        ensures { MeetsAtNode (Ok tt) (expired_for c (node_of self)) self result }
     {
         self.expired_for(c).accepted()
     }
 
     // The old lmode, if c still holds the node: what a lock that is refused leaves of those before it.
     pub fn give_back(self, c: u8, old: Lmode) -> NodeStep
-        ensures { MeetsAtNode NodeAnswer.Accepted (given_back c old (node_of self)) self result }
+        ensures { MeetsAtNode (Ok tt) (given_back c old (node_of self)) self result }
     {
         self.given_back(c, old).accepted()
     }
@@ -456,7 +431,7 @@ impl NodeRecord {
     // ---- failure
 
     pub fn fail(self) -> NodeStep
-        ensures { MeetsAtNode NodeAnswer.Accepted failed_node self result }
+        ensures { MeetsAtNode (Ok tt) failed_node self result }
     {
         NodeRecord::failed().accepted()
     }
@@ -480,26 +455,26 @@ impl NodeRecord {
     fn locked_by(self, c: u8) -> Self
         ensures { node_of result ≡ locked_by c (node_of self) }
     {
-        self.with_lmode(Lmode::L1, Holder::Client(c))
+        self.with_lmode(Lmode::L1, Some(c))
     }
 
     fn weakened_by(self, c: u8) -> Self
         ensures { node_of result ≡ weakened_by c (node_of self) }
     {
-        self.with_lmode(Lmode::L0, Holder::Client(c))
+        self.with_lmode(Lmode::L0, Some(c))
     }
 
     fn unlocked(self) -> Self
         ensures { node_of result ≡ unlocked (node_of self) }
     {
-        self.with_lmode(Lmode::Unl, Holder::Nobody)
+        self.with_lmode(Lmode::Unl, None)
     }
 
     fn given_back(self, c: u8, old: Lmode) -> Self
         ensures { node_of result ≡ given_back c old (node_of self) }
     {
         if self.held_by(c) {
-            self.with_lmode(old, Holder::Nobody)
+            self.with_lmode(old, None)
         } else {
             self
         }

@@ -7,7 +7,7 @@ use calls::Answer;
 use entries::Epoch;
 use rebuild::Stepped;
 use rebuild::admission::entrance;
-use records::{ClientRecord, NodeAnswer, NodeRecord, Phase, Refusal, Sizes};
+use records::{ClientRecord, NodeRecord, Phase, Refusal, Sizes};
 use stripe::Seen;
 
 // The nth settle finishes the rebuild.
@@ -40,12 +40,8 @@ fn settle_node(
     let step = node.settle(c, e);
     let answer = step.answer;
     match answer {
-        NodeAnswer::Refused(_) => Stepped::lost(z, c, seen, node, client),
-        NodeAnswer::Accepted => Stepped::answered(
-            settle_answer(z.n, j),
-            step.node,
-            client.advance(z.n),
-        ),
+        Err(_) => Stepped::lost(z, c, seen, node, client),
+        Ok(()) => Stepped::answered(settle_answer(z.n, j), step.node, client.advance(z.n)),
     }
 }
 
@@ -65,7 +61,7 @@ pub fn settle(z: Sizes, c: u8, seen: Seen, node: NodeRecord, client: ClientRecor
     ensures { Steps Rebuild.settle z c seen node client result }
 {
     match entrance(z, c, seen, client) {
-        NodeAnswer::Refused(why) => Stepped::refused(node, client, why),
-        NodeAnswer::Accepted => settle_in(z, c, seen, node, client),
+        Err(why) => Stepped::refused(node, client, why),
+        Ok(()) => settle_in(z, c, seen, node, client),
     }
 }

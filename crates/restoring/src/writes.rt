@@ -14,7 +14,7 @@ use code::NodeSet;
 use entries::Epoch;
 use rebuild::Stepped;
 use rebuild::tables::tabled_entrance;
-use records::{ClientRecord, NodeAnswer, NodeRecord, Phase, Refusal, Sizes};
+use records::{ClientRecord, NodeRecord, Phase, Refusal, Sizes};
 use stripe::Seen;
 
 // Block j, from the spare.
@@ -47,8 +47,8 @@ fn write_node(
     let step = node.write(c, e, set);
     let answer = step.answer;
     match answer {
-        NodeAnswer::Refused(_) => Stepped::lost(z, c, seen, node, client),
-        NodeAnswer::Accepted => {
+        Err(_) => Stepped::lost(z, c, seen, node, client),
+        Ok(()) => {
             copy_spare(blocks, spare, z.b, j as usize);
             Stepped::answered(Answer::Accepted, step.node, client.advance(z.n))
         }
@@ -93,7 +93,7 @@ pub fn write(
         nodes node client blocks.new spare.now result }
 {
     match tabled_entrance(z, c, seen, client, blocks, spare) {
-        NodeAnswer::Refused(why) => Stepped::refused(node, client, why),
-        NodeAnswer::Accepted => write_in(z, c, seen, node, client, blocks, spare),
+        Err(why) => Stepped::refused(node, client, why),
+        Ok(()) => write_in(z, c, seen, node, client, blocks, spare),
     }
 }

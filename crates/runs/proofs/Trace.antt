@@ -1,5 +1,6 @@
 -- A run of the code, record by record, at k=2, n=4, B=1, t_d=1, m=2: client 1 writes 01 into position 1, up to Done; client 2 rebuilds the stripe, up to
 -- its last settle. Each record is one that the code has, in arrays of 16 entries and of 8 ids. Assumes nothing.
+use Rattle.std.specs.Prelude.{Option, None, Some}
 use mathlib.Core.List.{List, [], ◌∷◌, ◌++◌}
 use Prim.Native.Nat.{ℕ, ◌-◌}
 use lib.ListN.{length, replicate}
@@ -7,7 +8,6 @@ use Rattle.machine.specs.Examples.{sizes}
 use Rattle.entries.specs.declared.WriteId.{WriteId}
 use Rattle.entries.specs.declared.Entry.{Entry}
 use Rattle.entries.specs.declared.Mark.TheVariants.{Recent}
-use Rattle.entries.specs.declared.Previous.TheVariants.{Nothing}
 use Rattle.entries.specs.declared.Ids.{Ids}
 use Rattle.entries.specs.View.{blank_id, blank_entry}
 use Rattle.records.specs.declared.Sizes.{Sizes}
@@ -15,10 +15,6 @@ use Rattle.records.specs.declared.Opmode.{Opmode}
 use Rattle.records.specs.declared.Opmode.TheVariants.{Norm, Recons}
 use Rattle.records.specs.declared.Lmode.{Lmode}
 use Rattle.records.specs.declared.Lmode.TheVariants.{Unl, L1}
-use Rattle.records.specs.declared.Holder.{Holder}
-use Rattle.records.specs.declared.Holder.TheVariants.{Nobody, Client}
-use Rattle.records.specs.declared.Hand.{Hand}
-use Rattle.records.specs.declared.Hand.TheVariants.{Empty, Holding}
 use Rattle.records.specs.declared.Phase.{Phase}
 use Rattle.records.specs.declared.Phase.TheVariants.{NoRebuild, Locking, Picking, Writing, Settling, Unlocking}
 use Rattle.records.specs.declared.NodeCall.TheVariants.{Add}
@@ -36,7 +32,7 @@ z = sizes 1
 
 -- ---- records
 
-abbrev node_with : Opmode → Lmode → Holder → ℕ → ℕ → List Entry → NodeRecord
+abbrev node_with : Opmode → Lmode → Option ℕ → ℕ → ℕ → List Entry → NodeRecord
 node_with opmode lmode holder epoch rset es =
     record {
       opmode = opmode;
@@ -50,15 +46,15 @@ node_with opmode lmode holder epoch rset es =
 abbrev ids_with : List WriteId → Ids
 ids_with ids = record { items = ids ++ replicate (8 - length ids) blank_id; count = length ids }
 
-abbrev client_with : Hand → Phase → List WriteId → ℕ → ClientRecord
+abbrev client_with : Option Write → Phase → List WriteId → ℕ → ClientRecord
 client_with hand phase finished next =
     record { hand = hand; phase = phase; finished = ids_with finished; moved = ids_with []; round = 0; next = record { 0 = next } }
 
 abbrev pub fresh_record : NodeRecord
-fresh_record = node_with Norm Unl Nobody 0 0 []
+fresh_record = node_with Norm Unl None 0 0 []
 
 abbrev pub fresh_client_record : ClientRecord
-fresh_client_record = client_with Empty NoRebuild [] 0
+fresh_client_record = client_with None NoRebuild [] 0
 
 -- ---- the write
 
@@ -70,23 +66,23 @@ listed = record { number = record { 0 = 0 }; client = 1; position = 1; mark = Re
 
 -- with the write listed there
 abbrev holds_write : NodeRecord
-holds_write = node_with Norm Unl Nobody 0 0 listed
+holds_write = node_with Norm Unl None 0 0 listed
 
 -- client 1 with the write in hand, done at this set of nodes
 abbrev in_hand : ℕ → ClientRecord
-in_hand done = client_with (Holding (record { id = the_id; previous = Nothing; epoch = record { 0 = 0 }; done = record { bits = done } })) NoRebuild [] 1
+in_hand done = client_with (Some (record { id = the_id; previous = None; epoch = record { 0 = 0 }; done = record { bits = done } })) NoRebuild [] 1
 
 -- ---- the rebuild
 
 -- a node held by client 2: locked, written, settled
 abbrev locked : List Entry → NodeRecord
-locked es = node_with Norm L1 (Client 2) 0 0 es
+locked es = node_with Norm L1 (Some 2) 0 0 es
 
 abbrev written : List Entry → NodeRecord
-written es = node_with Recons L1 (Client 2) 0 15 es
+written es = node_with Recons L1 (Some 2) 0 15 es
 
 abbrev settled : NodeRecord
-settled = node_with Norm L1 (Client 2) 1 0 []
+settled = node_with Norm L1 (Some 2) 1 0 []
 
 -- ---- the tables
 
@@ -104,7 +100,7 @@ at_first = tables (replicate 4 fresh_record) (replicate 2 fresh_client_record) (
 
 -- during the rebuild: client 1 has finished its write
 abbrev pub rebuilding : List NodeRecord → Phase → List ℕ → Tables
-rebuilding nodes phase spare = tables nodes (client_with Empty NoRebuild (the_id ∷ []) 1 ∷ client_with Empty phase [] 0 ∷ []) codeword spare (1 ∷ 85 ∷ [])
+rebuilding nodes phase spare = tables nodes (client_with None NoRebuild (the_id ∷ []) 1 ∷ client_with None phase [] 0 ∷ []) codeword spare (1 ∷ 85 ∷ [])
 
 -- ---- the calls, each with its answer and the tables as it left them
 

@@ -8,27 +8,24 @@ ghost use Rattle.image.specs.Records.{previous_tag, previous_id, write_bytes, ha
 
 use crate::ids::{blank_id, id_bytes, ids_bytes};
 use code::NodeSet;
-use entries::{Previous, WriteId};
+use entries::WriteId;
 use octets::{put, word_bytes};
-use records::{ClientRecord, Hand, Phase, Write};
+use records::{ClientRecord, Phase, Write};
 
-fn previous_tag(p: Previous) -> u8
+fn previous_tag(p: Option<WriteId>) -> u8
     ensures { result ≡ previous_tag p }
 {
     match p {
-        Previous::Nothing => 0,
-        Previous::Id(_) => 1,
+        None => 0,
+        Some(_) => 1,
     }
 }
 
 // Blank where there is none.
-fn previous_id(p: Previous) -> WriteId
+fn previous_id(p: Option<WriteId>) -> WriteId
     ensures { result ≡ previous_id p }
 {
-    match p {
-        Previous::Nothing => blank_id(),
-        Previous::Id(x) => x,
-    }
+    p.unwrap_or(blank_id())
 }
 
 // A write in hand, with the tag before it.
@@ -68,12 +65,12 @@ fn write_bytes(w: Write) -> [u8; 22]
     ]
 }
 
-fn hand_bytes(hand: Hand) -> [u8; 22]
+fn hand_bytes(hand: Option<Write>) -> [u8; 22]
     ensures { result ≡ hand_bytes (hand_of hand) }
 {
     match hand {
-        Hand::Empty => [0u8; 22],
-        Hand::Holding(w) => write_bytes(w),
+        None => [0u8; 22],
+        Some(w) => write_bytes(w),
     }
 }
 

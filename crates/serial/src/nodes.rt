@@ -8,7 +8,7 @@ ghost use Rattle.image.specs.Records.{mark_byte, entry_bytes, opmode_byte, lmode
 use code::NodeSet;
 use entries::{Age, Entries, Entry, Mark, WriteNumber};
 use octets::{put, word_bytes};
-use records::{Holder, Lmode, NodeRecord, Opmode};
+use records::{Lmode, NodeRecord, Opmode};
 
 fn mark_byte(mark: Mark) -> u8
     ensures { result ≡ mark_byte mark }
@@ -40,13 +40,10 @@ fn lmode_byte(lmode: Lmode) -> u8
     }
 }
 
-fn holder_byte(holder: Holder) -> u8
+fn holder_byte(holder: Option<u8>) -> u8
     ensures { result ≡ holder_byte holder }
 {
-    match holder {
-        Holder::Nobody => 0,
-        Holder::Client(c) => c,
-    }
+    holder.unwrap_or(0)
 }
 
 fn entry_bytes(e: Entry) -> [u8; 8]

@@ -1,10 +1,9 @@
 -- How a stripe by value and its tables are seen as the machine's stripe. Assumes nothing.
-use Rattle.std.specs.Prelude.{true, List, [], ◌≡◌, ℕ, ◌*◌, get_or, replicate}
+use Rattle.std.specs.Prelude.{true, List, [], ◌≡◌, ℕ, ◌*◌, get_or, replicate, None}
 use Rattle.basics.specs.Lists.{list_of}
 use Rattle.machine.specs.Stripe as Machine
 use Rattle.records.specs.declared.Sizes.{Sizes}
 use Rattle.records.specs.declared.ClientRecord.{ClientRecord}
-use Rattle.records.specs.declared.Hand.TheVariants.{Empty}
 use Rattle.records.specs.declared.Phase.TheVariants.{NoRebuild}
 use Rattle.records.specs.Sizes.{sizes_within}
 use Rattle.records.specs.Client.{Client}
@@ -17,7 +16,7 @@ use Rattle.step.specs.declared.Stripe.{Stripe}
 abbrev pub blank_client : ClientRecord
 blank_client =
     record {
-      hand = Empty;
+      hand = None;
       phase = NoRebuild;
       finished = record { items = []; count = 0 };
       moved = record { items = []; count = 0 };

@@ -1,5 +1,5 @@
 -- How the records of the code are seen as those of the machine. Assumes nothing.
-use Rattle.std.specs.Prelude.{List, [], ℕ, ◌≤◌, ◌<◌, get_or}
+use Rattle.std.specs.Prelude.{List, [], ℕ, ◌≤◌, ◌<◌, get_or, None}
 use Rattle.basics.specs.Lists.{list_of}
 use Rattle.entries.specs.Entries.{entry_limit}
 use Rattle.entries.specs.declared.WriteId.{WriteId}
@@ -7,7 +7,6 @@ use Rattle.entries.specs.View.{blank_id}
 use Rattle.records.specs.declared.NodeRecord.{NodeRecord}
 use Rattle.records.specs.declared.Opmode.TheVariants.{Norm}
 use Rattle.records.specs.declared.Lmode.TheVariants.{Unl}
-use Rattle.records.specs.declared.Holder.TheVariants.{Nobody}
 use Rattle.records.specs.Node.{Node}
 use Rattle.records.specs.View.{node_of}
 use Rattle.stripe.specs.declared.nodes.Nodes.{Nodes}
@@ -19,7 +18,7 @@ blank_record =
     record {
       opmode = Norm;
       lmode = Unl;
-      holder = Nobody;
+      holder = None;
       epoch = record { 0 = 0 };
       rset = record { bits = 0 };
       entries = record { items = []; count = 0 };

@@ -15,7 +15,7 @@ ghost use Rattle.calls.specs.Stepping.{StepsRecords};
 use calls::{Answer, AtNode};
 use entries::{Ids, WriteId};
 use limits::tables::are_tables;
-use records::{ClientRecord, NodeAnswer, NodeRecord, Refusal, Sizes, Write};
+use records::{ClientRecord, NodeRecord, Refusal, Sizes, Write};
 
 // Whether a swap's sizes, records, tables and value are within the limits.
 fn is_within(
@@ -99,7 +99,7 @@ fn step_records(z: Sizes, c: u8, i: u8, node: NodeRecord, client: ClientRecord) 
     let id = next_id(c, i, client);
     let step = node.swap(id);
     let answer = step.answer;
-    if let NodeAnswer::Refused(why) = answer {
+    if let Err(why) = answer {
         return AtNode::refused(node, client, why);
     }
     if Ids::LIMIT <= client.finished.count {

@@ -1,8 +1,8 @@
 -- The machine's check past its tests of limits and range: with no write in hand, at a node that is not done, by what the node tells. Assumes nothing.
+use Rattle.std.specs.Prelude.{None, Some}
 use mathlib.Core.Path.{◌≡◌, refl, sym, ap, ◌∙◌}
 use mathlib.Core.Bool.{Bool, true, false, cond, not}
 use mathlib.Core.List.{[]}
-use mathlib.Core.Option.{some}
 use Prim.Native.Nat.{ℕ}
 use Rattle.code.specs.Decode.{has, excluding}
 use Rattle.code.specs.View.{node_set_of}
@@ -11,7 +11,6 @@ use Rattle.records.specs.declared.CheckAnswer.{CheckAnswer}
 use Rattle.records.specs.declared.CheckAnswer.TheVariants as Told
 use Rattle.records.specs.declared.ClientRecord.{ClientRecord}
 use Rattle.records.specs.declared.Finding.TheVariants as Finding
-use Rattle.records.specs.declared.Hand.TheVariants.{Empty, Holding}
 use Rattle.records.specs.declared.Refusal.TheVariants.{OutOfPhase}
 use Rattle.records.specs.declared.Write.{Write}
 use Rattle.records.specs.Client.{Client, with_hand}
@@ -22,16 +21,16 @@ use Rattle.machine.specs.Writing.{with_done, forgetting, with_client, check_writ
 use Rattle.calls.specs.declared.Answer.TheVariants as Answer
 use Rattle.calls.specs.Answers.{Meets}
 
-pub check-empty : (j : ℕ) (client : ClientRecord) (l : Local) → client.hand ≡ Empty → refused OutOfPhase l ≡ check_write j (client_of client).hand l
+pub check-empty : (j : ℕ) (client : ClientRecord) (l : Local) → client.hand ≡ None → refused OutOfPhase l ≡ check_write j (client_of client).hand l
 unfolding check_write
 check-empty j client l e = rw e
 
 module _ (j : ℕ) (client : ClientRecord) (w : Write) (l : Local) where
   abbrev left : Client
-  left = with_hand (some (with_done (write_of w) (excluding j (node_set_of w.done)))) l.client
+  left = with_hand (Some (with_done (write_of w) (excluding j (node_set_of w.done)))) l.client
 
   abbrev forgot : Client
-  forgot = with_hand (some (forgetting (write_of w))) l.client
+  forgot = with_hand (Some (forgetting (write_of w))) l.client
 
   abbrev by-told : CheckAnswer → Outcome Local
   by-told Told.Init = answered CheckInit (with_client left l)
@@ -45,7 +44,7 @@ module _ (j : ℕ) (client : ClientRecord) (w : Write) (l : Local) where
   asked true false = refl
   asked false previous = refl
 
-  module _ (held : client.hand ≡ Holding w) where
+  module _ (held : client.hand ≡ Some w) where
     pub check-undone : has (node_set_of w.done) j ≡ false → refused OutOfPhase l ≡ check_write j (client_of client).hand l
     unfolding check_write guard
     check-undone e = rw (held, e)

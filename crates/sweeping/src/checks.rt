@@ -1,5 +1,5 @@
 // A client's write in hand: it is checked at a node, or dropped.
-ghost use Rattle.std.specs.Prelude.{◌&&◌, List, [], ◌≡◌, ℕ, ◌≤◌};
+ghost use Rattle.std.specs.Prelude.{◌&&◌, List, [], ◌≡◌, ℕ, ◌≤◌, Some};
 ghost use Rattle.calls.specs.Answers.{Meets, local};
 ghost use Rattle.machine.specs.Writing;
 ghost use Rattle.entries.specs.Entries.{entry_limit};
@@ -9,7 +9,7 @@ ghost use Rattle.records.specs.View.{node_of, client_of};
 
 use calls::{Answer, OfClient};
 use limits::at_node::{is_client_within, is_within};
-use records::{CheckAnswer, ClientRecord, Finding, Hand, NodeRecord, Refusal, Sizes, Write};
+use records::{CheckAnswer, ClientRecord, Finding, NodeRecord, Refusal, Sizes, Write};
 
 fn is_in_range(z: Sizes, c: u8, j: u8) -> bool
     ensures { result ≡ (is_client z c && is_node z j) }
@@ -19,7 +19,7 @@ fn is_in_range(z: Sizes, c: u8, j: u8) -> bool
 
 // By what node j tells of the write in hand, if the write is done there.
 fn check_write(j: u8, write: Write, node: NodeRecord, client: ClientRecord) -> OfClient
-    requires { (client.hand ≡ Hand.Holding write) × (node.entries.count ≤ entry_limit) }
+    requires { (client.hand ≡ Some write) × (node.entries.count ≤ entry_limit) }
     ensures { (blocks differences : List ℕ) →
         Meets (Writing.check_write j (client_of client).hand (local (node_of node) (client_of client) blocks differences))
         result.answer [] (local (node_of node) (client_of result.client) blocks differences) (result.client ≡ client) }
@@ -60,8 +60,8 @@ pub fn check(z: Sizes, c: u8, j: u8, node: NodeRecord, client: ClientRecord) -> 
     }
     let hand = client.hand;
     match hand {
-        Hand::Empty => OfClient::refused(client, Refusal::OutOfPhase),
-        Hand::Holding(write) => check_write(j, write, node, client),
+        None => OfClient::refused(client, Refusal::OutOfPhase),
+        Some(write) => check_write(j, write, node, client),
     }
 }
 

@@ -14,7 +14,7 @@ ghost use Rattle.sweeping.specs.Sweeping.{sweep_node};
 
 use calls::{Answer, AtNode};
 use limits::at_node::is_within;
-use records::{ClientRecord, NodeAnswer, NodeRecord, NodeStep, Refusal, Sizes};
+use records::{ClientRecord, NodeRecord, NodeStep, Refusal, Sizes};
 
 // The node's step, by the half that the round is in.
 fn sweep_entries(z: Sizes, node: NodeRecord, client: ClientRecord) -> NodeStep
@@ -42,8 +42,8 @@ fn sweep_node(z: Sizes, node: NodeRecord, client: ClientRecord) -> AtNode
     let step = sweep_entries(z, node, client);
     let answer = step.answer;
     match answer {
-        NodeAnswer::Refused(why) => AtNode::refused(node, client, why),
-        NodeAnswer::Accepted => {
+        Err(why) => AtNode::refused(node, client, why),
+        Ok(()) => {
             let swept = step.node;
             let next = client.sweep_on(z.n);
             AtNode {

@@ -1,9 +1,9 @@
 -- The failure of a node keeps the invariant. Assumes nothing.
+use Rattle.std.specs.Prelude.{Some}
 use mathlib.Core.Path.{◌≡◌, refl, sym, ap, ◌∙◌}
 use mathlib.Core.Logic.{◌≢◌}
 use mathlib.Core.Bool.{true, false}
 use mathlib.Core.List.{[]}
-use mathlib.Core.Option.{some}
 use Prim.Native.Nat.{ℕ}
 use Rattle.code.specs.Decode.{has, no_nodes}
 use Rattle.records.specs.declared.Opmode.{Opmode}
@@ -117,7 +117,7 @@ module _ (O : Ops) where
             each-place (λ j. has (s'.rset j) l ≡ true → is_recons (s'.op j) ≡ true) x (λ t. clash (rw (upd_same s.rset x no_nodes) at t) (no-nodes l))
             (λ j d t. rw (upd_other s.op x Init j d) ((I.pair j l).only (rset-was j t)))
 
-    hand : (c : ℕ) (w : Write) → s.hand c ≡ some w → HandOk O G' h' s'.op c (s.difference c) w
+    hand : (c : ℕ) (w : Write) → s.hand c ≡ Some w → HandOk O G' h' s'.op c (s.difference c) w
     hand c w e = hand-step O G' h' s'.op (λ j t z. (norm-was j t, sym (settled_same j t) ∙ z, λ i. refl)) (I.hand c w e)
 
     ---- the phases: nobody holds the failed node

@@ -1,8 +1,8 @@
 -- Pick: the members of the set taken all stand at one cut, so what is decoded from them is the codeword of that cut. Assumes nothing.
+use Rattle.std.specs.Prelude.{Some}
 use mathlib.Core.Path.{◌≡◌, refl, sym, ap, subst, ◌∙◌}
 use mathlib.Core.Logic.{◌≢◌, ◌⊎◌, inl, inr}
 use mathlib.Core.Bool.{Bool, true, false}
-use mathlib.Core.Option.{some}
 use Prim.Native.Nat.{ℕ, zero, suc, ◌≤◌, ◌<◌}
 use native.Mathlib.Omega.{arith}
 use lib.Dec.{leb}
@@ -221,7 +221,7 @@ module _ (O : Ops) where
           high = omega (arith, L.k_n);
           spare = L.decodes w s.block (at O h A.cut) many (λ j q. let v = live-member j q in
               (v.low, v.high, v.block ∙ code-ext O L j (at O h (G.in_block j)) (at O h A.cut) v.low (λ i sp. ap (h.val i) (A.at_cut j q i sp))));
-          count = upd_same h.settles c (some 0);
+          count = upd_same h.settles c (Some 0);
         }
 
     pub pick_good : Good O h' (picked c w e s)

@@ -1,9 +1,9 @@
 -- Settle, by what it does to the columns, keeps the invariant; all n nodes then stand at the cut, and the last settle starts the counts anew from it.
 -- Assumes nothing.
+use Rattle.std.specs.Prelude.{Some}
 use mathlib.Core.Path.{◌≡◌, refl, sym, ap, ◌∙◌}
 use mathlib.Core.Logic.{◌≢◌, ◌⊎◌, inl, inr}
 use mathlib.Core.Bool.{Bool, true, false, cond}
-use mathlib.Core.Option.{some}
 use mathlib.Core.List.{[]}
 use Prim.Native.Nat.{ℕ, zero, suc, ◌≤◌, ◌<◌}
 use native.Mathlib.Omega.{arith}
@@ -239,7 +239,7 @@ module _ (O : Ops) where
                 low = omega arith;
                 high = more;
                 spare = settler.spare;
-                count = λ y q. upd_same h.settles c (some x) ∙ ap some (suc-same q);
+                count = λ y q. upd_same h.settles c (Some x) ∙ ap Some (suc-same q);
               });
           one = one_writer O s.phase c (Settling (suc x) e) quiet;
           shown = λ d j b. upd-ind (λ d q. unlocks q ≡ true → s.lock j ≡ L1 d → s.spare j ≡ s.block j) s.phase c (Settling (suc x) e)
@@ -333,10 +333,10 @@ module _ (O : Ops) where
           }
 
     ---- which of the two it is
-    count : (y : ℕ) × (x ≡ suc y) × (h.settles c ≡ some y)
+    count : (y : ℕ) × (x ≡ suc y) × (h.settles c ≡ Some y)
     count = go x refl
       where
-        go : (y : ℕ) → x ≡ y → (y : ℕ) × (x ≡ suc y) × (h.settles c ≡ some y)
+        go : (y : ℕ) → x ≡ y → (y : ℕ) × (x ≡ suc y) × (h.settles c ≡ Some y)
         go zero q = let a = settler.low in absurd (omega arith)
         go (suc y) q = (y, q, settler.count y q)
 

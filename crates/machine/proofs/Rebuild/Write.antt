@@ -1,8 +1,8 @@
 -- Write, by what it does to the columns, keeps the invariant: the node's block becomes that of the cut. Assumes nothing.
+use Rattle.std.specs.Prelude.{Some}
 use mathlib.Core.Path.{◌≡◌, refl, sym, ap, subst, ◌∙◌}
 use mathlib.Core.Logic.{◌≢◌, ◌⊎◌, inl, inr}
 use mathlib.Core.Bool.{true, false, cond}
-use mathlib.Core.Option.{some}
 use Prim.Native.Nat.{ℕ, suc, ◌≤◌, ◌<◌}
 use native.Mathlib.Omega.{arith}
 use lib.Dec.{leb}
@@ -142,7 +142,7 @@ module _ (O : Ops) where
         was_settled : (j : ℕ) → upd G.is_settled x false j ≡ true → G.is_settled j ≡ true
         was_settled = upd-ind (λ j t. t ≡ true → G.is_settled j ≡ true) G.is_settled x false (λ t. clash t refl) (λ j ne t. t)
 
-    hand : (d : ℕ) (u : Write) → s.hand d ≡ some u → HandOk O G' h op' d (s.difference d) u
+    hand : (d : ℕ) (u : Write) → s.hand d ≡ Some u → HandOk O G' h op' d (s.difference d) u
     hand d u q =
         hand-step O G' h op' (λ j a b. let (ne, norm) = norm-other j a in (norm, sym (upd_other G.is_settled x false j ne) ∙ b, in_block-other j ne))
         (I.hand d u q)
@@ -172,7 +172,7 @@ module _ (O : Ops) where
           low = omega arith;
           high = omega (arith, writer.low, writer.high);
           spare = writer.spare;
-          count = λ y q. writer.count ∙ ap some (first y q);
+          count = λ y q. writer.count ∙ ap Some (first y q);
         })
         (λ t. record {
           epoch = writer.epoch;

@@ -1,15 +1,13 @@
 -- Add keeps the invariant. Assumes nothing.
+use Rattle.std.specs.Prelude.{Option, None, Some}
 use mathlib.Core.Path.{◌≡◌, refl, sym, ap, ap₂, subst, ◌∙◌}
 use mathlib.Core.Logic.{◌≢◌, ◌⊎◌, inl, inr}
 use mathlib.Core.Bool.{Bool, true, false, ◌||◌}
 use mathlib.Core.List.{List, [], ◌∷◌, ◌++◌}
-use mathlib.Core.Option.{Option, none, some}
 use Prim.Native.Nat.{ℕ, zero, suc, ◌≤◌, ◌<◌}
 use native.Mathlib.Omega.{arith}
 use Rattle.code.specs.Decode.{has, including}
 use Rattle.entries.specs.declared.WriteId.{WriteId}
-use Rattle.entries.specs.declared.Previous.{Previous}
-use Rattle.entries.specs.declared.Previous.TheVariants.{Nothing, Id}
 use Rattle.entries.specs.Entries.{Entry, same_id, is_listed, is_in, enter}
 use Rattle.records.specs.Node.{is_init, is_norm}
 use Rattle.records.specs.Client.{Write}
@@ -25,16 +23,16 @@ use Rattle.machine.proofs.Sets.{including-same, including-other}
 use Rattle.machine.proofs.Entering.{Takes, all-norm, all-unwritten, Everywhere, DoneThen, Enters, entered, entered-hand, entered-inv}
 
 -- "The previous id, if any, must be listed there"
-abbrev pub previous_listed : Previous → List Entry → Bool
-previous_listed Nothing es = true
-previous_listed (Id x) es = is_listed x es
+abbrev pub previous_listed : Option WriteId → List Entry → Bool
+previous_listed None es = true
+previous_listed (Some x) es = is_listed x es
 
 module _ (O : Ops) where
   open O use {B, k, n, diff, mul_add, parity}
 
   -- what an add needs, the write in hand being w
   pub record MayAdd (s : Columns B) (c j : ℕ) (w : Write) : Type 0 where
-    pub hand : s.hand c ≡ some w
+    pub hand : s.hand c ≡ Some w
     pub redundant : k < j
     pub high : j ≤ n
     pub todo : has w.done j ≡ false
@@ -50,10 +48,10 @@ module _ (O : Ops) where
       (set_entries (upd s.entries j (enter w.id (s.entries j))) s)
 
   abbrev pub added : Columns B → ℕ → ℕ → Write → Columns B
-  added s c j w = set_hands (upd s.hand c (some (with_done w (including j w.done)))) (added_to s c j w)
+  added s c j w = set_hands (upd s.hand c (Some (with_done w (including j w.done)))) (added_to s c j w)
 
   abbrev pub added_last : Columns B → ℕ → ℕ → Write → Columns B
-  added_last s c j w = set_hands (upd s.hand c none) (set_finished (upd s.finished c (s.finished c ++ (w.id ∷ []))) (added_to s c j w))
+  added_last s c j w = set_hands (upd s.hand c None) (set_finished (upd s.finished c (s.finished c ++ (w.id ∷ []))) (added_to s c j w))
 
   module _ (L : Laws O) {G : Ghost} {h : Ledger B} {s : Columns B} (I : Inv O G h s) {c j : ℕ} {w : Write} (M : MayAdd s c j w) where
     live : is_init (s.op j) ≡ false
@@ -97,7 +95,7 @@ module _ (O : Ops) where
         in_list zero high e = omega arith
         in_list (suc p) high e = let a = (counted O I j i (suc p) (omega arith) high e).1 in let b = (all-unwritten O I takes j live).same i spot in omega arith
 
-        go : (w.previous ≡ Id (G.id_of i q)) ⊎ (h.done i q ≡ true) → q ≤ G.in_block j i
+        go : (w.previous ≡ Some (G.id_of i q)) ⊎ (h.done i q ≡ true) → q ≤ G.in_block j i
         go (inl e) = in_list q (let a = own.high in omega arith) (subst (λ p. previous_listed p (s.entries j) ≡ true) e M.previous)
         go (inr e) = (((I.node j).live live).between i spot).least q e
 
@@ -161,11 +159,11 @@ module _ (O : Ops) where
           done_len y l (inr (e, f, all)) = rw (e, f) own.high
 
       -- c has t in hand then
-      hands : (t : Option Write) → ((u : Write) → t ≡ some u → HandOk O G' h' s.op c (s.difference c) u) →
-          (d : ℕ) (u : Write) → upd s.hand c t d ≡ some u → HandOk O G' h' s.op d (s.difference d) u
-      hands t here = upd-ind (λ d t. (u : Write) → t ≡ some u → HandOk O G' h' s.op d (s.difference d) u) s.hand c t here others
+      hands : (t : Option Write) → ((u : Write) → t ≡ Some u → HandOk O G' h' s.op c (s.difference c) u) →
+          (d : ℕ) (u : Write) → upd s.hand c t d ≡ Some u → HandOk O G' h' s.op d (s.difference d) u
+      hands t here = upd-ind (λ d t. (u : Write) → t ≡ Some u → HandOk O G' h' s.op d (s.difference d) u) s.hand c t here others
         where
-          others : (d : ℕ) → c ≢ d → (u : Write) → s.hand d ≡ some u → HandOk O G' h' s.op d (s.difference d) u
+          others : (d : ℕ) → c ≢ d → (u : Write) → s.hand d ≡ Some u → HandOk O G' h' s.op d (s.difference d) u
           others d ne u e =
               entered-hand O L I takes enters d (s.difference d) u refl
               (λ p a b t f g. ne (sym own.client ∙ ap (λ (x : WriteId). x.client) (own.is ∙ (λ z. G.id_of (sym f z) (suc (sym g z))) ∙ sym b) ∙ t))
@@ -208,8 +206,8 @@ module _ (O : Ops) where
 
     more-inv : Inv O G' h (added s c j w)
     more-inv =
-        entered-inv O L I takes (enters as_before) s.next (upd s.hand c (some w')) s.difference s.finished (ids as_before)
-        (hands as_before (some w') (λ u e. subst (HandOk O G' h s.op c (s.difference c)) (some_same e) mine)) (finished-lists as_before)
+        entered-inv O L I takes (enters as_before) s.next (upd s.hand c (Some w')) s.difference s.finished (ids as_before)
+        (hands as_before (Some w') (λ u e. subst (HandOk O G' h s.op c (s.difference c)) (some_same e) mine)) (finished-lists as_before)
       where
         as_before : DoneThen O G h s j i q h.done
         as_before = record { still = λ y l e. e; only = λ y l e. inl e }
@@ -268,10 +266,10 @@ module _ (O : Ops) where
               let lq : l ≡ suc q = I.ids.id_of-inj i l (suc q) a (subst (λ t. l ≤ h.len t) yi b) (omega arith) own.high same in
               (λ z. dn (yi z) (lq z)) ∙ upd2-same h.done i (suc q) true
 
-      done-inv : Inv O G' (note_done h (some (record { pos = i; place = suc q }))) (added_last s c j w)
+      done-inv : Inv O G' (note_done h (Some (record { pos = i; place = suc q }))) (added_last s c j w)
       done-inv =
-          entered-inv O L I takes (enters besides) s.next (upd s.hand c none) s.difference (upd s.finished c finished') (ids besides)
-          (hands besides none (λ u e. not_some e))
+          entered-inv O L I takes (enters besides) s.next (upd s.hand c None) s.difference (upd s.finished c finished') (ids besides)
+          (hands besides None (λ u e. not_some e))
           (upd-ind (λ d t. FinishedOk O G' (h' besides) d (s.next d) t) s.finished c finished' own-finished (λ d e. finished-lists besides d))
 
   pub add-more-good : Laws O → (h : Ledger B) (s : Columns B) (c j : ℕ) (w : Write) → Good O h s → MayAdd s c j w → Good O h (added s c j w)

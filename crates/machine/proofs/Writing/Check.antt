@@ -1,13 +1,12 @@
 -- Check and drop keep the invariant: they change one hand. Assumes nothing.
+use Rattle.std.specs.Prelude.{Option, None, Some}
 use mathlib.Core.Path.{◌≡◌, refl, sym, subst, ◌∙◌}
 use mathlib.Core.Logic.{◌≢◌, ◌⊎◌, inl, inr}
 use mathlib.Core.Bool.{true, false}
-use mathlib.Core.Option.{Option, none, some}
 use Prim.Native.Nat.{ℕ, zero, suc, ◌≤◌, ◌<◌}
 use native.Mathlib.Decide.{dec_lt}
 use native.Mathlib.Omega.{arith}
 use Rattle.code.specs.Decode.{NodeSet, has, excluding}
-use Rattle.entries.specs.declared.Previous.TheVariants.{Id}
 use Rattle.entries.specs.Entries.{is_recent_in, previous_recent}
 use Rattle.records.specs.Node.{is_norm}
 use Rattle.records.specs.Client.{Write}
@@ -29,13 +28,13 @@ module _ (O : Ops) where
 
   -- a call that changes one hand alone
   pub hand-only : {G : Ghost} {h : Ledger B} {s : Columns B} → Inv O G h s → (c : ℕ) (t : Option Write) →
-      ((u : Write) → t ≡ some u → HandOk O G h s.op c (s.difference c) u) → Inv O G h (with_hand s c t)
+      ((u : Write) → t ≡ Some u → HandOk O G h s.op c (s.difference c) u) → Inv O G h (with_hand s c t)
   hand-only {G} {h} {s} I c t f =
       record {
         ids = I.ids;
         node = I.node;
         pair = I.pair;
-        hand = upd-ind (λ d a. (u : Write) → a ≡ some u → HandOk O G h s.op d (s.difference d) u) s.hand c t f (λ d e. I.hand d);
+        hand = upd-ind (λ d a. (u : Write) → a ≡ Some u → HandOk O G h s.op d (s.difference d) u) s.hand c t f (λ d e. I.hand d);
         finished = I.finished;
         unl = I.unl;
         weak = I.weak;
@@ -45,16 +44,16 @@ module _ (O : Ops) where
         shown = I.shown;
       }
 
-  pub drop-good : (h : Ledger B) (s : Columns B) (c : ℕ) → Good O h s → Good O h (with_hand s c none)
-  drop-good h s c g = record { ghost = g.ghost; inv = hand-only g.inv c none (λ u e. not_some e) }
+  pub drop-good : (h : Ledger B) (s : Columns B) (c : ℕ) → Good O h s → Good O h (with_hand s c None)
+  drop-good h s c g = record { ghost = g.ghost; inv = hand-only g.inv c None (λ u e. not_some e) }
 
   -- another write u in the place of w
-  other-write : (h : Ledger B) (s : Columns B) (c : ℕ) (w u : Write) → (g : Good O h s) → s.hand c ≡ some w →
-      (HandOk O g.ghost h s.op c (s.difference c) w → HandOk O g.ghost h s.op c (s.difference c) u) → Good O h (with_hand s c (some u))
+  other-write : (h : Ledger B) (s : Columns B) (c : ℕ) (w u : Write) → (g : Good O h s) → s.hand c ≡ Some w →
+      (HandOk O g.ghost h s.op c (s.difference c) w → HandOk O g.ghost h s.op c (s.difference c) u) → Good O h (with_hand s c (Some u))
   other-write h s c w u g e f =
       record {
         ghost = g.ghost;
-        inv = hand-only g.inv c (some u) (λ v t. subst (HandOk O g.ghost h s.op c (s.difference c)) (some_same t) (f (g.inv.hand c w e)));
+        inv = hand-only g.inv c (Some u) (λ v t. subst (HandOk O g.ghost h s.op c (s.difference c)) (some_same t) (f (g.inv.hand c w e)));
       }
 
   module _ {G : Ghost} {h : Ledger B} {s : Columns B} (I : Inv O G h s) {c : ℕ} (j : ℕ) {w : Write} (o : Own O G h s.op c (s.difference c) w) where
@@ -108,18 +107,18 @@ module _ (O : Ops) where
             is_true (h.done i (suc p)) (λ d.
             let (spot, listed) = here in clash ((I.node j).list.undone i (suc p) spot (omega arith) (omega arith) d) g)
 
-        go : (w.previous ≡ Id (G.id_of i o.q)) ⊎ (h.done i o.q ≡ true) → h.done i o.q ≡ true
+        go : (w.previous ≡ Some (G.id_of i o.q)) ⊎ (h.done i o.q ≡ true) → h.done i o.q ≡ true
         go (inl e) = done o.q refl (rw e at f)
         go (inr e) = e
 
   -- the check at j takes j out of done, or it takes the previous id away
-  pub check-init-good : Laws O → (h : Ledger B) (s : Columns B) (c j : ℕ) (w : Write) → Good O h s → s.hand c ≡ some w →
-      is_recent_in w.id (s.entries j) ≡ false → Good O h (with_hand s c (some (with_done w (excluding j w.done))))
+  pub check-init-good : Laws O → (h : Ledger B) (s : Columns B) (c j : ℕ) (w : Write) → Good O h s → s.hand c ≡ Some w →
+      is_recent_in w.id (s.entries j) ≡ false → Good O h (with_hand s c (Some (with_done w (excluding j w.done))))
   check-init-good L h s c j w g e r =
       other-write h s c w (with_done w (excluding j w.done)) g e (λ H. record { epoch = H.epoch; own = λ t. own-gone g.inv j (H.own t) L r })
 
-  pub check-gc-good : (h : Ledger B) (s : Columns B) (c j : ℕ) (w : Write) → Good O h s → s.hand c ≡ some w →
-      is_recent_in w.id (s.entries j) ≡ true → previous_recent w.previous (s.entries j) ≡ false → Good O h (with_hand s c (some (forgetting w)))
+  pub check-gc-good : (h : Ledger B) (s : Columns B) (c j : ℕ) (w : Write) → Good O h s → s.hand c ≡ Some w →
+      is_recent_in w.id (s.entries j) ≡ true → previous_recent w.previous (s.entries j) ≡ false → Good O h (with_hand s c (Some (forgetting w)))
   check-gc-good h s c j w g e r f = other-write h s c w (forgetting w) g e (λ H. record { epoch = H.epoch; own = λ t. forgotten (H.own t) })
     where
       forgotten : Own O g.ghost h s.op c (s.difference c) w → Own O g.ghost h s.op c (s.difference c) (forgetting w)

@@ -1,14 +1,13 @@
 -- Swap keeps the invariant. Assumes nothing.
+use Rattle.std.specs.Prelude.{Option, Some}
 use mathlib.Core.Path.{◌≡◌, refl, sym, ap, ap₂, subst, ◌∙◌}
 use mathlib.Core.Logic.{◌≢◌, ◌⊎◌, inl, inr}
 use mathlib.Core.Bool.{true, false}
-use mathlib.Core.Option.{Option, some}
 use Prim.Native.Nat.{ℕ, suc, ◌≤◌, ◌<◌}
 use native.Mathlib.Nat.{le_trans}
 use native.Mathlib.Omega.{arith}
 use Rattle.code.specs.Decode.{has, no_nodes, including}
 use Rattle.entries.specs.declared.WriteId.{WriteId}
-use Rattle.entries.specs.declared.Previous.TheVariants.{Id}
 use Rattle.entries.specs.Entries.{is_old_in, is_in, last_recent, enter}
 use Rattle.records.specs.Node.{is_init, is_norm}
 use Rattle.records.specs.Client.{Write}
@@ -36,7 +35,7 @@ module _ (O : Ops) where
       set_blocks (upd s.block i v)
       (set_entries (upd s.entries i (enter (new_id s c i) (s.entries i)))
       (set_nexts (upd s.next c (suc (s.next c)))
-      (set_hands (upd s.hand c (some (new_write s c i))) (set_differences (upd s.difference c (diff v (s.block i))) s))))
+      (set_hands (upd s.hand c (Some (new_write s c i))) (set_differences (upd s.difference c (diff v (s.block i))) s))))
 
   module _ (L : Laws O) {G : Ghost} {h : Ledger B} {s : Columns B} (I : Inv O G h s)
       (c i : ℕ) (v : B) (P : IsPos O i) (norm : is_norm (s.op i) ≡ true) (unl : is_unl (s.lock i) ≡ true) where
@@ -60,7 +59,7 @@ module _ (O : Ops) where
     next' = upd s.next c (suc (s.next c))
 
     abbrev hand' : ℕ → Option Write
-    hand' = upd s.hand c (some (new_write s c i))
+    hand' = upd s.hand c (Some (new_write s c i))
 
     abbrev difference' : ℕ → B
     difference' = upd s.difference c (diff v (s.block i))
@@ -170,7 +169,7 @@ module _ (O : Ops) where
             undone = is_false (h.done i (suc q)) (λ e. let a = I.ids.done_len i (suc q) e in absurd (omega arith));
             difference = ap₂ diff (sym (upd2-same h.val i (suc q) v)) (old-block ∙ sym (old-place h.val v i q (omega arith)));
             prev = previous (unwritten.newest P.high);
-            last = upd_same h.last c (some (record { pos = i; place = suc q }));
+            last = upd_same h.last c (Some (record { pos = i; place = suc q }));
             in_done = λ j a b e f. clash f (not_in j a b);
             not_done = λ j a b e f. rw (upd2-pos G.in_block i i (suc q) j i (apart j a))
                 (((I.node j).live (norm-live (s.op j) b)).between i (record { pos = P; sees = inr a })).most;
@@ -186,17 +185,17 @@ module _ (O : Ops) where
         old-block : s.block i ≡ h.val i q
         old-block = ((I.node i).live live).block ∙ code-data O i (at O h (G.in_block i)) P.high ∙ ap (h.val i) (unwritten.own P.high)
 
-        previous : (last_recent (s.entries i) ≡ Id (G.id_of i q)) ⊎ (h.done i q ≡ true) → (last_recent (s.entries i) ≡ Id (id_of' i q)) ⊎ (h.done i q ≡ true)
-        previous (inl e) = inl (e ∙ ap Id (sym (old-place G.id_of id i q (omega arith))))
+        previous : (last_recent (s.entries i) ≡ Some (G.id_of i q)) ⊎ (h.done i q ≡ true) → (last_recent (s.entries i) ≡ Some (id_of' i q)) ⊎ (h.done i q ≡ true)
+        previous (inl e) = inl (e ∙ ap Some (sym (old-place G.id_of id i q (omega arith))))
         previous (inr e) = inr e
 
-    hands : (d : ℕ) (w : Write) → hand' d ≡ some w → HandOk O G' h' s.op d (difference' d) w
+    hands : (d : ℕ) (w : Write) → hand' d ≡ Some w → HandOk O G' h' s.op d (difference' d) w
     hands =
-        each-place (λ d. (w : Write) → hand' d ≡ some w → HandOk O G' h' s.op d (difference' d) w) c
-        (rw (upd_same s.hand c (some (new_write s c i)), upd_same s.difference c (diff v (s.block i)))
+        each-place (λ d. (w : Write) → hand' d ≡ Some w → HandOk O G' h' s.op d (difference' d) w) c
+        (rw (upd_same s.hand c (Some (new_write s c i)), upd_same s.difference c (diff v (s.block i)))
         (λ w e. subst (HandOk O G' h' s.op c (diff v (s.block i))) (some_same e) mine))
-        (λ d ne. rw (upd_other s.hand c (some (new_write s c i)) d ne, upd_other s.difference c (diff v (s.block i)) d ne)
-        (λ w e. entered-hand O L I takes enters d (s.difference d) w (upd_other h.last c (some (record { pos = i; place = suc q })) d ne)
+        (λ d ne. rw (upd_other s.hand c (Some (new_write s c i)) d ne, upd_other s.difference c (diff v (s.block i)) d ne)
+        (λ w e. entered-hand O L I takes enters d (s.difference d) w (upd_other h.last c (Some (record { pos = i; place = suc q })) d ne)
         (λ p a b t f. another p w.id.position a f) (I.hand d w e)))
       where
         another : (p y : ℕ) → suc p ≤ h.len y → y ≡ i → p ≢ q

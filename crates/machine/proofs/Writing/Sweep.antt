@@ -1,4 +1,5 @@
 -- Sweep keeps the invariant: a node's list is made shorter or its finished ids are marked, and a client's finished list may be emptied. Assumes nothing.
+use Rattle.std.specs.Prelude.{Some}
 use mathlib.Core.Path.{◌≡◌, refl, sym, ◌∙◌}
 use mathlib.Core.Logic.{◌⊎◌, inl, inr}
 use mathlib.Core.Bool.{true, false}
@@ -7,7 +8,6 @@ use Prim.Native.Nat.{ℕ, zero, suc, ◌≤◌}
 use native.Mathlib.Nat.{le_trans}
 use native.Mathlib.Omega.{arith}
 use Rattle.entries.specs.declared.WriteId.{WriteId}
-use Rattle.entries.specs.declared.Previous.TheVariants.{Id}
 use Rattle.entries.specs.Entries.{Entry, is_listed, is_recent_in, is_old_in, is_in, last_recent, discard, mark_old}
 use Rattle.records.specs.declared.Opmode.{Opmode}
 use Rattle.basics.proofs.Updates.{upd, upd-ind}
@@ -25,7 +25,7 @@ module _ (O : Ops) where
     pub listed : (x : WriteId) → is_listed x es' ≡ true → is_listed x es ≡ true
     pub recent : (i l : ℕ) → 1 ≤ l → l ≤ h.len i → h.done i l ≡ false → is_recent_in (G.id_of i l) es ≡ true → is_recent_in (G.id_of i l) es' ≡ true
     pub old : (i l : ℕ) → 1 ≤ l → l ≤ h.len i → is_old_in (G.id_of i l) es' ≡ true → (is_old_in (G.id_of i l) es ≡ true) ⊎ (h.done i l ≡ true)
-    pub last : (i : ℕ) → last_recent es ≡ Id (G.id_of i (h.len i)) → (last_recent es' ≡ Id (G.id_of i (h.len i))) ⊎ (h.done i (h.len i) ≡ true)
+    pub last : (i : ℕ) → last_recent es ≡ Some (G.id_of i (h.len i)) → (last_recent es' ≡ Some (G.id_of i (h.len i))) ⊎ (h.done i (h.len i) ≡ true)
 
   pub tidied-node : (G : Ghost) (h : Ledger B) (j : ℕ) (b : B) (o : Opmode) (e : ℕ) (es es' : List Entry) →
       Tidied G h es es' → NodeOk O G h j b o e es → NodeOk O G h j b o e es'
@@ -50,8 +50,8 @@ module _ (O : Ops) where
       old i l a c (inl t) = N.list.old i l a c t
       old i l a c (inr t) = t
 
-      newest : (last_recent es ≡ Id (G.id_of j (h.len j))) ⊎ (h.done j (h.len j) ≡ true) →
-          (last_recent es' ≡ Id (G.id_of j (h.len j))) ⊎ (h.done j (h.len j) ≡ true)
+      newest : (last_recent es ≡ Some (G.id_of j (h.len j))) ⊎ (h.done j (h.len j) ≡ true) →
+          (last_recent es' ≡ Some (G.id_of j (h.len j))) ⊎ (h.done j (h.len j) ≡ true)
       newest (inl t) = T.last j t
       newest (inr t) = inr t
 
@@ -124,12 +124,12 @@ module _ (O : Ops) where
       old i y a b t (inl q) = inr (done i y a b q)
       old i y a b t (inr q) = inl (sym (old-mark (id_of i y) fin es q) ∙ t)
 
-      last : (i y : ℕ) → y ≡ h.len i → last_recent es ≡ Id (id_of i y) → (last_recent (mark_old fin es) ≡ Id (id_of i y)) ⊎ (h.done i y ≡ true)
+      last : (i y : ℕ) → y ≡ h.len i → last_recent es ≡ Some (id_of i y) → (last_recent (mark_old fin es) ≡ Some (id_of i y)) ⊎ (h.done i y ≡ true)
       last i zero e t = inr (g.inv.ids.zero_done i)
       last i (suc y) e t = go (bool_cases (is_in (id_of i (suc y)) fin))
         where
           go : (is_in (id_of i (suc y)) fin ≡ true) ⊎ (is_in (id_of i (suc y)) fin ≡ false) →
-              (last_recent (mark_old fin es) ≡ Id (id_of i (suc y))) ⊎ (h.done i (suc y) ≡ true)
+              (last_recent (mark_old fin es) ≡ Some (id_of i (suc y))) ⊎ (h.done i (suc y) ≡ true)
           go (inl q) = inr (done i (suc y) (omega arith) (omega arith) q)
           go (inr q) = inl (last-mark fin (id_of i (suc y)) es t q)
 

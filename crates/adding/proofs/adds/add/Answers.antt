@@ -1,7 +1,7 @@
 -- The test of the limits, then the step of the two records; then the bytes. Assumes nothing.
+use Rattle.std.specs.Prelude.{Option, None}
 use mathlib.Core.Path.{◌≡◌, sym, ◌∙◌}
 use mathlib.Core.Bool.{true}
-use mathlib.Core.Option.{Option, none}
 use Rattle.basics.proofs.Tests.{and_right}
 use Rattle.records.specs.declared.Refusal.{Refusal}
 use Rattle.records.specs.Sizes.{sizes_within}
@@ -40,7 +40,7 @@ whole : (c : Else-not-is_within) →
 unfolding Writing.add
 whole c = search (guards, c.is_within.ensures, c.if-not-is_within.false-raw)
 
-none-refuses : (c : Else-number-ne0) → tests (goal.at.Else-number-ne0 c).Start ≡ none
+none-refuses : (c : Else-number-ne0) → tests (goal.at.Else-number-ne0 c).Start ≡ None
 none-refuses c =
     let a = c.args in
     passed {effect = effect (goal.at.Else-number-ne0 c).Start} (tests (goal.at.Else-number-ne0 c).Start) (c.step_records-stepped.ensures a.blocks.now a.differences.now) (sym c.number.ensures ∙ c.if-number-ne0.false)
@@ -60,17 +60,17 @@ returns-then-number-ne0 c = let a = c.args in
 
 pub add_bytes-requires : goal.add_bytes-requires
 add_bytes-requires c = let a = c.args in
-    let held = c.in-Holding.is in
-    let passes = add-passes a.z a.c a.j (node_of a.node) (client_of a.client) (write_of c.in-Holding.write) (rw held) (none-refuses (goal.at.add_bytes-requires c).Else-number-ne0) in
+    let held = c.in-Some.is in
+    let passes = add-passes a.z a.c a.j (node_of a.node) (client_of a.client) (write_of c.in-Some.write) (rw held) (none-refuses (goal.at.add_bytes-requires c).Else-number-ne0) in
     let there = tables-there a.z (lent (goal.at.add_bytes-requires c).Start) (within (goal.at.add_bytes-requires c).Else-not-is_within) a.c a.j passes.range in
     let owned = and_right (node_within a.z (node_of a.node)) _ (and_right (sizes_within a.z) _ (records-fit a.z (lent (goal.at.add_bytes-requires c).Start) (within (goal.at.add_bytes-requires c).Else-not-is_within))) in
     (there.node_first, there.block_there, there.client_first, there.difference_there, hand-position a.z a.client _ held owned)
 
-pub returns-in-Holding : goal.returns-in-Holding
-returns-in-Holding c = let a = c.args in
-    let held = c.in-Holding.is in
-    rw (← whole (goal.at.returns-in-Holding c).Else-not-is_within)
-    (call-accepted {effect = effect (goal.at.returns-in-Holding c).Start} a.blocks.now a.differences.now (tests (goal.at.returns-in-Holding c).Start) (c.step_records-stepped.ensures a.blocks.now a.differences.now)
+pub returns-in-Some : goal.returns-in-Some
+returns-in-Some c = let a = c.args in
+    let held = c.in-Some.is in
+    rw (← whole (goal.at.returns-in-Some c).Else-not-is_within)
+    (call-accepted {effect = effect (goal.at.returns-in-Some c).Start} a.blocks.now a.differences.now (tests (goal.at.returns-in-Some c).Start) (c.step_records-stepped.ensures a.blocks.now a.differences.now)
     (sym c.number.ensures ∙ c.if-number-ne0.false) (rw held c.add_bytes.ensures) (rw held))
 
 pub returns-in_default : goal.returns-in_default

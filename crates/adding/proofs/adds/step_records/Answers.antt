@@ -26,16 +26,16 @@ returns-then-not-is_in_range c blocks differences = let a = c.args in
 
 pub step_write-requires : goal.step_write-requires
 step_write-requires c = let a = c.args in
-    let held = c.in-Holding.is in
+    let held = c.in-Some.is in
     let sizes = code-sizes a.z (and_left (sizes_within a.z) _ c.requires) in
     let owned = and_right (node_within a.z (node_of a.node)) _ (and_right (sizes_within a.z) _ c.requires) in
     (held, omega (arith, sizes), (lent-within a.z a.node a.client c.requires).entries, hand-room a.z a.client _ held owned)
 
-pub returns-in-Empty : goal.returns-in-Empty
-returns-in-Empty c blocks differences = let a = c.args in
+pub returns-in-None : goal.returns-in-None
+returns-in-None c blocks differences = let a = c.args in
     steps-refused
-    (add-without a.z a.c a.j (node_of a.node) (client_of a.client) (in-range (goal.at.returns-in-Empty c).Else-not-is_in_range) (rw c.in-Empty.is)) c.refused-in-Empty.ensures
+    (add-without a.z a.c a.j (node_of a.node) (client_of a.client) (in-range (goal.at.returns-in-None c).Else-not-is_in_range) (rw c.in-None.is)) c.refused-in-None.ensures
 
-pub returns-in-Holding : goal.returns-in-Holding
-returns-in-Holding c blocks differences = let a = c.args in
-    rw (add-in a.z a.c a.j (node_of a.node) (client_of a.client) (in-range (goal.at.returns-in-Holding c).Else-not-is_in_range)) (c.step_write.ensures a.c blocks differences)
+pub returns-in-Some : goal.returns-in-Some
+returns-in-Some c blocks differences = let a = c.args in
+    rw (add-in a.z a.c a.j (node_of a.node) (client_of a.client) (in-range (goal.at.returns-in-Some c).Else-not-is_in_range)) (c.step_write.ensures a.c blocks differences)

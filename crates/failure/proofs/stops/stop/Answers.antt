@@ -4,11 +4,11 @@ use Rattle.machine.specs.Failure.{stop}
 use Rattle.rebuild.proofs.Stepping.{steps-left, steps-turned, steps_on}
 use Rattle.failure.proofs.stops.stop.Goals as goal
 
-pub returns-in-Refused : goal.returns-in-Refused
+pub returns-in-Err : goal.returns-in-Err
 unfolding stop
-returns-in-Refused c nodes blocks spare t = steps-turned t c.entrance.ensures _ c.in-Refused.is c.refused.ensures
+returns-in-Err c nodes blocks spare t = steps-turned t c.entrance.ensures _ c.in-Err.is c.refused.ensures
 
-pub returns-in-Accepted : goal.returns-in-Accepted
+pub returns-in-Ok : goal.returns-in-Ok
 unfolding stop
-returns-in-Accepted c nodes blocks spare t = steps_on t c.entrance.ensures c.in-Accepted.is
+returns-in-Ok c nodes blocks spare t = steps_on t c.entrance.ensures c.in-Ok.is
     (steps-left t refl (rw (c.expire.ensures, c.stop.ensures)) _)

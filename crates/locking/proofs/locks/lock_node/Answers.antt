@@ -1,4 +1,5 @@
 -- As the node answers: it is put back locked, or the lmodes that are remembered are given back. Assumes nothing.
+use Rattle.std.specs.Prelude.{Ok, Err}
 use mathlib.Core.Path.{◌≡◌, refl, sym, ap, ◌∙◌}
 use mathlib.Core.Bool.{Bool, true, false, cond, ◌||◌}
 use Prim.Native.Nat.{◌+◌}
@@ -7,9 +8,9 @@ use lib.ListN.{length}
 use Rattle.basics.proofs.Lists.{length-list_of}
 use Rattle.machine.specs.Stripe.{node_at}
 use Rattle.machine.specs.Rebuild.{lock_node}
-use Rattle.records.specs.declared.NodeAnswer.TheVariants.{Accepted, Refused}
 use Rattle.records.specs.declared.Refusal.{Refusal}
 use Rattle.records.specs.declared.Refusal.TheVariants.{Locked}
+use Rattle.records.specs.NodeSteps.{NodeAnswer}
 use Rattle.records.specs.Node.{Node, is_l0, is_l1, locked_by}
 use Rattle.records.specs.View.{node_of}
 use Rattle.rebuild.proofs.Stepping.{steps-made, steps-left}
@@ -18,44 +19,44 @@ use Rattle.locking.proofs.locks.lock_node.Goals as goal
 abbrev is_locked : Node → Bool
 is_locked x = is_l0 x.lmode || is_l1 x.lmode
 
-free : (t : Bool) → cond t (Refused Locked) Accepted ≡ Accepted → t ≡ false
+free : (t : Bool) → cond {A = NodeAnswer} t (Err Locked) (Ok tt) ≡ Ok tt → t ≡ false
 free true e = cc
 free false e = refl
 
-held : (t : Bool) {why : Refusal} → cond t (Refused Locked) Accepted ≡ Refused why → t ≡ true
+held : (t : Bool) {why : Refusal} → cond {A = NodeAnswer} t (Err Locked) (Ok tt) ≡ Err why → t ≡ true
 held true e = refl
 held false e = cc
 
-is-locked : (t : Bool) {why : Refusal} → cond t (Refused Locked) Accepted ≡ Refused why → why ≡ Locked
+is-locked : (t : Bool) {why : Refusal} → cond {A = NodeAnswer} t (Err Locked) (Ok tt) ≡ Err why → why ≡ Locked
 is-locked true e = cc
 is-locked false e = cc
 
 pub lock-requires : goal.lock-requires
-lock-requires c = let unlocked = free (is_locked (node_of c.args.node)) (sym c.lock-step.ensures.answered ∙ c.in-Accepted.is) in
+lock-requires c = let unlocked = free (is_locked (node_of c.args.node)) (sym c.lock-step.ensures.answered ∙ c.in-Ok.is) in
     let count = ap length c.requires.1.1.0 ∙ length-list_of c.args.x _ in
     (cc, omega (arith, c.requires, count))
 
-pub returns-in-Accepted : goal.returns-in-Accepted
+pub returns-in-Ok : goal.returns-in-Ok
 unfolding lock_node
-returns-in-Accepted c nodes blocks spare t = let a = c.args in
+returns-in-Ok c nodes blocks spare t = let a = c.args in
     let at : node_of a.node ≡ node_at nodes (a.x + 1) = t.record_is ∙ ap (node_at nodes) c.requires.1.1.1 in
-    let left = (rw c.in-Accepted.is at c.lock-step.ensures.left) ∙ ap (locked_by a.c) at in
+    let left = (rw c.in-Ok.is at c.lock-step.ensures.left) ∙ ap (locked_by a.c) at in
     steps-made t c.answered.ensures left
     (rw (
       c.lock.ensures,
       c.requires.1.1.1,
       c.requires.1.1.0,
       length-list_of a.x _,
-      sym (ap is_locked at) ∙ free (is_locked (node_of a.node)) (sym c.lock-step.ensures.answered ∙ c.in-Accepted.is),
+      sym (ap is_locked at) ∙ free (is_locked (node_of a.node)) (sym c.lock-step.ensures.answered ∙ c.in-Ok.is),
       ← ap (λ x. x.lmode) at,
     ))
     _
 
-pub returns-in-Refused : goal.returns-in-Refused
+pub returns-in-Err : goal.returns-in-Err
 unfolding lock_node
-returns-in-Refused c nodes blocks spare t = let a = c.args in
+returns-in-Err c nodes blocks spare t = let a = c.args in
     let at : node_of a.node ≡ node_at nodes (a.x + 1) = t.record_is ∙ ap (node_at nodes) c.requires.1.1.1 in
-    let answer = sym c.lock-step.ensures.answered ∙ c.in-Refused.is in
+    let answer = sym c.lock-step.ensures.answered ∙ c.in-Err.is in
     let why = is-locked (is_locked (node_of a.node)) answer in
     steps-left t refl
     (rw (

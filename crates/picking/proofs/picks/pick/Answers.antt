@@ -11,15 +11,15 @@ pub pick_now-requires : goal.pick_now-requires
 pick_now-requires c = let a = c.before.args in
     let s = c.see-seen.result in
     let e = c.tabled_entrance.ensures in
-    let on = c.in-Accepted.is in
+    let on = c.in-Ok.is in
     (pick-admitted a.nodes c.see-seen.ensures (tabled-admitted a.z a.c s a.client a.blocks.now a.spare.now e on), tabled-tables a.z a.c s a.client a.blocks.now a.spare.now e on)
 
-pub returns-in-Refused : goal.returns-in-Refused
+pub returns-in-Err : goal.returns-in-Err
 unfolding pick
-returns-in-Refused c = let a = c.before.args in
+returns-in-Err c = let a = c.before.args in
     picks-refused a.z a.nodes c.refused.ensures
     (tabled-failed a.z a.c c.see-seen.result a.client a.blocks.now a.spare.now c.tabled_entrance.ensures c.see-seen.ensures _
-    c.in-Refused.is)
+    c.in-Err.is)
 
 pub returns-then-is_picking : goal.returns-then-is_picking
 unfolding pick
@@ -28,7 +28,7 @@ returns-then-is_picking c = let a = c.before.args in
     picks-as a.z a.nodes {part = pick_now a.z a.c w} c.pick_now.ensures
     (picks-in w (sym c.is_picking.ensures ∙ c.if-is_picking.true) (pick_now a.z a.c w)
     ∙ tabled-passed a.z a.c c.see-seen.result a.client a.blocks.now a.spare.now c.tabled_entrance.ensures c.see-seen.ensures _
-    c.in-Accepted.is)
+    c.in-Ok.is)
 
 pub returns-else-is_picking : goal.returns-else-is_picking
 unfolding pick
@@ -37,4 +37,4 @@ returns-else-is_picking c = let a = c.before.args in
     picks-refused a.z a.nodes c.refused-else-is_picking.ensures
     (picks-out w (pick_now a.z a.c w) (sym c.is_picking.ensures ∙ c.if-is_picking.false)
     ∙ tabled-passed a.z a.c c.see-seen.result a.client a.blocks.now a.spare.now c.tabled_entrance.ensures c.see-seen.ensures _
-    c.in-Accepted.is)
+    c.in-Ok.is)

@@ -3,11 +3,11 @@ use Rattle.entries.proofs.Tests.{same-as, tests}
 use Rattle.records.proofs.Limits.{client-tests}
 use Rattle.records.proofs.ClientRecord.is_within.Goals as goal
 
-pub returns-then-is_within-2 : goal.returns-then-is_within-2
-returns-then-is_within-2 c = same-as (client-tests _ _) (search tests)
-
-pub returns-else-is_within-2 : goal.returns-else-is_within-2
-returns-else-is_within-2 c = same-as (client-tests _ _) (search tests)
+pub returns-then-is_within : goal.returns-then-is_within
+returns-then-is_within c = same-as (client-tests _ _) (search tests)
 
 pub returns-else-is_within : goal.returns-else-is_within
 returns-else-is_within c = same-as (client-tests _ _) (search tests)
+
+pub returns-else-is_hand_within : goal.returns-else-is_hand_within
+returns-else-is_hand_within c = same-as (client-tests _ _) (search tests)

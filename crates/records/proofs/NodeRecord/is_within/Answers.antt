@@ -4,30 +4,30 @@ use Rattle.entries.proofs.Tests.{tests}
 use Rattle.records.specs.Node.{node_within}
 use Rattle.records.proofs.NodeRecord.is_within.Goals as goal
 
+pub is_holder_within-requires : goal.is_holder_within-requires
+unfolding node_within
+is_holder_within-requires c = search rules
+
 pub is_within-requires : goal.is_within-requires
 unfolding node_within
 is_within-requires c = search rules
 
-pub is_within-requires-then-self-le-EPOCHS : goal.is_within-requires-then-self-le-EPOCHS
+pub is_within-requires-then-is_within : goal.is_within-requires-then-is_within
 unfolding node_within
-is_within-requires-then-self-le-EPOCHS c = search rules
+is_within-requires-then-is_within c = search rules
 
-pub is_within-requires-then-is_within-2 : goal.is_within-requires-then-is_within-2
+pub returns-then-is_within : goal.returns-then-is_within
 unfolding node_within
-is_within-requires-then-is_within-2 c = search rules
+returns-then-is_within c = search tests
 
-pub returns-then-is_within-2 : goal.returns-then-is_within-2
+pub returns-else-is_within : goal.returns-else-is_within
 unfolding node_within
-returns-then-is_within-2 c = search tests
-
-pub returns-else-is_within-2 : goal.returns-else-is_within-2
-unfolding node_within
-returns-else-is_within-2 c = search tests
+returns-else-is_within c = search tests
 
 pub returns-else-self-le-EPOCHS : goal.returns-else-self-le-EPOCHS
 unfolding node_within
 returns-else-self-le-EPOCHS c = search tests
 
-pub returns-else-is_within : goal.returns-else-is_within
+pub returns-else-is_holder_within : goal.returns-else-is_holder_within
 unfolding node_within
-returns-else-is_within c = search tests
+returns-else-is_holder_within c = search tests

@@ -23,12 +23,12 @@ enum_told-1 c = search rules
 
 pub settle_in-requires : goal.settle_in-requires
 unfolding settle
-settle_in-requires c = admitted c.args.c c.entrance.ensures c.in-Accepted.is
+settle_in-requires c = admitted c.args.c c.entrance.ensures c.in-Ok.is
 
-pub returns-in-Refused : goal.returns-in-Refused
+pub returns-in-Err : goal.returns-in-Err
 unfolding settle
-returns-in-Refused c nodes blocks spare t = steps-turned t c.entrance.ensures _ c.in-Refused.is c.refused.ensures
+returns-in-Err c nodes blocks spare t = steps-turned t c.entrance.ensures _ c.in-Err.is c.refused.ensures
 
-pub returns-in-Accepted : goal.returns-in-Accepted
+pub returns-in-Ok : goal.returns-in-Ok
 unfolding settle
-returns-in-Accepted c = c.settle_in.ensures
+returns-in-Ok c = c.settle_in.ensures

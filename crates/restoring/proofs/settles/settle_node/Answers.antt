@@ -53,21 +53,21 @@ settle-step-requires c = settling-epoch c.requires.0 c.requires.1
 pub advance-requires : goal.advance-requires
 advance-requires c = nodes-few _ c.requires.0.sizes
 
-pub returns-in-Refused : goal.returns-in-Refused
-returns-in-Refused c nodes blocks spare t = let a = c.args in
+pub returns-in-Err : goal.returns-in-Err
+returns-in-Err c nodes blocks spare t = let a = c.args in
     let sees = t.sees c.requires.0.sizes in
     let at : node_of a.node ≡ node_at nodes a.j = t.record_is ∙ ap (node_at nodes) (own_in a.client c.requires.1) in
     let own = own_held sees c.requires.0.nodes (not-false _ c.if-not-seen.false) (settling c.requires.0 c.requires.1) in
-    clash own (sym (ap (held_by a.c) at) ∙ held-refused (held_by a.c (node_of a.node)) (sym c.settle-step.ensures.answered ∙ c.in-Refused.is))
+    clash own (sym (ap (held_by a.c) at) ∙ held-refused (held_by a.c (node_of a.node)) (sym c.settle-step.ensures.answered ∙ c.in-Err.is))
 
-pub returns-in-Accepted : goal.returns-in-Accepted
+pub returns-in-Ok : goal.returns-in-Ok
 unfolding settle guard holding
-returns-in-Accepted c nodes blocks spare t = let a = c.args in
+returns-in-Ok c nodes blocks spare t = let a = c.args in
     let n = a.z.n in
     let at : node_of a.node ≡ node_at nodes a.j = t.record_is ∙ ap (node_at nodes) (own_in a.client c.requires.1) in
     let all : every_of (held_by a.c) nodes ≡ true = sym (t.sees c.requires.0.sizes).held ∙ not-false _ c.if-not-seen.false in
     let answer = c.settle_answer.ensures in
     steps-past t c.requires.0
-    (steps-made t c.answered.ensures ((rw c.in-Accepted.is at c.settle-step.ensures.left) ∙ ap (settled a.e) at)
+    (steps-made t c.answered.ensures ((rw c.in-Ok.is at c.settle-step.ensures.left) ∙ ap (settled a.e) at)
     (rw (answer, said (leb n a.j), c.advance.ensures, c.requires.1, all))
     (rw answer (left _ (leb n a.j))))

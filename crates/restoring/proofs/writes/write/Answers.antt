@@ -7,12 +7,12 @@ use Rattle.restoring.proofs.writes.write.Goals as goal
 pub write_in-requires : goal.write_in-requires
 write_in-requires c = let a = c.before.args in
     let e = c.tabled_entrance.ensures in
-    (tabled-admitted a.z a.c a.seen a.client a.blocks.now a.spare.now e c.in-Accepted.is, tabled-tables a.z a.c a.seen a.client a.blocks.now a.spare.now e c.in-Accepted.is)
+    (tabled-admitted a.z a.c a.seen a.client a.blocks.now a.spare.now e c.in-Ok.is, tabled-tables a.z a.c a.seen a.client a.blocks.now a.spare.now e c.in-Ok.is)
 
-pub returns-in-Refused : goal.returns-in-Refused
+pub returns-in-Err : goal.returns-in-Err
 unfolding write
-returns-in-Refused c nodes t = let a = c.before.args in
-    steps-refused t c.refused.ensures (tabled-failed a.z a.c a.seen a.client a.blocks.now a.spare.now c.tabled_entrance.ensures t.sees _ c.in-Refused.is)
+returns-in-Err c nodes t = let a = c.before.args in
+    steps-refused t c.refused.ensures (tabled-failed a.z a.c a.seen a.client a.blocks.now a.spare.now c.tabled_entrance.ensures t.sees _ c.in-Err.is)
 
-pub returns-in-Accepted : goal.returns-in-Accepted
-returns-in-Accepted c = c.write_in.ensures
+pub returns-in-Ok : goal.returns-in-Ok
+returns-in-Ok c = c.write_in.ensures

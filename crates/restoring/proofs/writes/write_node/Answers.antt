@@ -44,23 +44,23 @@ copy_spare-requires c = let a = c.args in
 pub advance-requires : goal.advance-requires
 advance-requires c = (writing c.requires.0 c.requires.1).few
 
-pub returns-in-Refused : goal.returns-in-Refused
+pub returns-in-Err : goal.returns-in-Err
 unfolding guard holding
-returns-in-Refused c nodes t = let a = c.args in
+returns-in-Err c nodes t = let a = c.args in
     let at : node_of a.node ≡ node_at nodes a.j = t.record_is ∙ ap (node_at nodes) (own_in a.client c.requires.1) in
     let lost : held_by a.c (node_at nodes a.j) ≡ false =
-    sym (ap (held_by a.c) at) ∙ held-refused (held_by a.c (node_of a.node)) (sym c.write-step.ensures.answered ∙ c.in-Refused.is) in
-    steps-as t {part = rest a.z a.c (lent (goal.at.returns-in-Refused c).Start nodes)}
-    (steps-as t (c.lost.ensures nodes a.blocks.now a.spare.now t) (rw (c.requires.1, lost))) (past (goal.at.returns-in-Refused c).Start nodes t)
+    sym (ap (held_by a.c) at) ∙ held-refused (held_by a.c (node_of a.node)) (sym c.write-step.ensures.answered ∙ c.in-Err.is) in
+    steps-as t {part = rest a.z a.c (lent (goal.at.returns-in-Err c).Start nodes)}
+    (steps-as t (c.lost.ensures nodes a.blocks.now a.spare.now t) (rw (c.requires.1, lost))) (past (goal.at.returns-in-Err c).Start nodes t)
 
-pub returns-in-Accepted : goal.returns-in-Accepted
+pub returns-in-Ok : goal.returns-in-Ok
 unfolding guard holding
-returns-in-Accepted c nodes t = let a = c.args in
+returns-in-Ok c nodes t = let a = c.args in
     let at : node_of a.node ≡ node_at nodes a.j = t.record_is ∙ ap (node_at nodes) (own_in a.client c.requires.1) in
     let held : held_by a.c (node_at nodes a.j) ≡ true =
-    sym (ap (held_by a.c) at) ∙ held-accepted (held_by a.c (node_of a.node)) (sym c.write-step.ensures.answered ∙ c.in-Accepted.is) in
-    steps-as t {part = rest a.z a.c (lent (goal.at.returns-in-Accepted c).Start nodes)}
-    (steps-made t c.answered.ensures ((rw c.in-Accepted.is at c.write-step.ensures.left) ∙ ap (written a.e (node_set_of a.set)) at)
+    sym (ap (held_by a.c) at) ∙ held-accepted (held_by a.c (node_of a.node)) (sym c.write-step.ensures.answered ∙ c.in-Ok.is) in
+    steps-as t {part = rest a.z a.c (lent (goal.at.returns-in-Ok c).Start nodes)}
+    (steps-made t c.answered.ensures ((rw c.in-Ok.is at c.write-step.ensures.left) ∙ ap (written a.e (node_set_of a.set)) at)
     (rw (c.advance.ensures, c.copy_spare.ensures, c.requires.1, held))
     _)
-    (past (goal.at.returns-in-Accepted c).Start nodes t)
+    (past (goal.at.returns-in-Ok c).Start nodes t)

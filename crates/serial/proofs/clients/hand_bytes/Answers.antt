@@ -1,5 +1,5 @@
 -- By cases of the hand. Assumes nothing.
 use Rattle.serial.proofs.clients.hand_bytes.Goals as goal
 
-pub returns-in-Holding : goal.returns-in-Holding
-returns-in-Holding c = rw c.in-Holding.is c.write_bytes.ensures
+pub returns-in-Some : goal.returns-in-Some
+returns-in-Some c = rw c.in-Some.is c.write_bytes.ensures

@@ -29,11 +29,11 @@ returns-then-is_busy c value blocks differences = let a = c.args in
     steps-refused (swap-busy a.z a.c a.i (node_of a.node) (client_of a.client) (in-range (goal.at.returns-then-is_busy c).Else-not-is_in_range) (sym c.is_busy.ensures ∙ c.if-is_busy.true))
     c.refused-then-is_busy.ensures
 
-pub returns-in-Refused : goal.returns-in-Refused
-returns-in-Refused c value blocks differences = let a = c.args in
-    steps-refused (swap-refused a.z a.c a.i (node_of a.node) (client_of a.client) (in-range (goal.at.returns-in-Refused c).Else-not-is_in_range) (idle (goal.at.returns-in-Refused c).Else-is_busy)
-    (sym c.in-Refused.is ∙ c.swap-step.ensures.answered))
-    c.refused-in-Refused.ensures
+pub returns-in-Err : goal.returns-in-Err
+returns-in-Err c value blocks differences = let a = c.args in
+    steps-refused (swap-refused a.z a.c a.i (node_of a.node) (client_of a.client) (in-range (goal.at.returns-in-Err c).Else-not-is_in_range) (idle (goal.at.returns-in-Err c).Else-is_busy)
+    (sym c.in-Err.is ∙ c.swap-step.ensures.answered))
+    c.refused-in-Err.ensures
 
 pub returns-then-client-ge-LIMIT : goal.returns-then-client-ge-LIMIT
 returns-then-client-ge-LIMIT c value blocks differences = let a = c.args in

@@ -1,7 +1,7 @@
 -- The test of the limits, then the step of the two records; then the bytes. Assumes nothing.
+use Rattle.std.specs.Prelude.{Option}
 use mathlib.Core.Path.{◌≡◌, refl, sym, ◌∙◌}
 use mathlib.Core.Bool.{true, ◌&&◌}
-use mathlib.Core.Option.{Option}
 use Rattle.records.specs.declared.Refusal.{Refusal}
 use Rattle.records.specs.Sizes.{is_position, is_client}
 use Rattle.records.specs.View.{node_of, client_of}

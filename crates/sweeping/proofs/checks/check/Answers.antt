@@ -34,11 +34,11 @@ returns-then-not-is_in_range c blocks differences = refused-of-client c.refused-
 pub check_write-requires : goal.check_write-requires
 check_write-requires c = let a = c.args in
     let known = lent-within a.z a.node a.client (holds c.is_within.ensures c.if-not-is_within.false-raw) in
-    (c.in-Holding.is, known.entries)
+    (c.in-Some.is, known.entries)
 
-pub returns-in-Empty : goal.returns-in-Empty
-returns-in-Empty c blocks differences = refused-of-client c.refused-in-Empty.ensures
-    (check-empty c.args.j c.args.client (lent (goal.at.returns-in-Empty c).Start blocks differences) c.in-Empty.is ∙ passed (goal.at.returns-in-Empty c).Else-not-is_in_range blocks differences)
+pub returns-in-None : goal.returns-in-None
+returns-in-None c blocks differences = refused-of-client c.refused-in-None.ensures
+    (check-empty c.args.j c.args.client (lent (goal.at.returns-in-None c).Start blocks differences) c.in-None.is ∙ passed (goal.at.returns-in-None c).Else-not-is_in_range blocks differences)
 
-pub returns-in-Holding : goal.returns-in-Holding
-returns-in-Holding c blocks differences = rw (← passed (goal.at.returns-in-Holding c).Else-not-is_in_range blocks differences) (c.check_write.ensures blocks differences)
+pub returns-in-Some : goal.returns-in-Some
+returns-in-Some c blocks differences = rw (← passed (goal.at.returns-in-Some c).Else-not-is_in_range blocks differences) (c.check_write.ensures blocks differences)

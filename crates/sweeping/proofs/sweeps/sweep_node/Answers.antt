@@ -16,12 +16,12 @@ pub sweep_on-next-requires : goal.sweep_on-next-requires
 sweep_on-next-requires c = let known = lent-within c.args.z c.args.node c.args.client c.requires in
     (known.round, known.nodes)
 
-pub returns-in-Refused : goal.returns-in-Refused
-returns-in-Refused c blocks differences = refused-at-node c.refused.ensures (sweep-refused _ _ _ c.sweep_entries-step.ensures.answered _ c.in-Refused.is)
+pub returns-in-Err : goal.returns-in-Err
+returns-in-Err c blocks differences = refused-at-node c.refused.ensures (sweep-refused _ _ _ c.sweep_entries-step.ensures.answered _ c.in-Err.is)
 
-pub returns-in-Accepted : goal.returns-in-Accepted
-returns-in-Accepted c blocks differences = let args = c.args in
+pub returns-in-Ok : goal.returns-in-Ok
+returns-in-Ok c blocks differences = let args = c.args in
     let l = local (node_of args.node) (client_of args.client) blocks differences in
     let step = c.sweep_entries-step.ensures in
-    let took = c.in-Accepted.is in
+    let took = c.in-Ok.is in
     accepted (stepped step took) c.sweep_on-next.ensures refl refl (sweep-accepted l _ _ step.answered took)

@@ -1,4 +1,5 @@
 -- By what the change is: the record after the node's own step. Assumes nothing.
+use Rattle.std.specs.Prelude.{Ok, Err}
 use mathlib.Core.Path.{◌≡◌, ap, ◌∙◌}
 use mathlib.Core.Bool.{Bool, true, false, cond, ◌||◌, not}
 use Prim.Native.Nat.{ℕ}
@@ -7,7 +8,6 @@ use lib.ListN.{length}
 use Rattle.entries.specs.Entries.{entry_limit}
 use Rattle.records.specs.declared.NodeRecord.{NodeRecord}
 use Rattle.records.specs.declared.NodeStep.{NodeStep}
-use Rattle.records.specs.declared.NodeAnswer.TheVariants.{Accepted, Refused}
 use Rattle.records.specs.declared.Refusal.TheVariants.{OutOfLimits, OutOfPhase, NotHeld}
 use Rattle.records.specs.Node.{Node, is_recons, held_by, weakened_by, ticked}
 use Rattle.records.specs.NodeSteps.{LeftAtNode, MeetsAtNode, weaken_answer, tick_answer}
@@ -16,7 +16,7 @@ use Rattle.stripe.specs.Seen.{weakened_for, ticked_within}
 use Rattle.stripe.proofs.seen.Change.made.Goals as goal
 
 -- what a step that is always accepted leaves
-after-step : {after : Node} {before : NodeRecord} {r : NodeStep} → MeetsAtNode Accepted after before r → node_of r.node ≡ after
+after-step : {after : Node} {before : NodeRecord} {r : NodeStep} → MeetsAtNode (Ok tt) after before r → node_of r.node ≡ after
 after-step m = rw m.answered at m.left
 
 -- and a weaken, which may be refused
@@ -25,7 +25,7 @@ after-weaken : (c : ℕ) {before : NodeRecord} {r : NodeStep} → MeetsAtNode (w
 after-weaken c {before} {r} m =
     by (is_recons before.opmode) (held_by c (node_of before)) (rw m.answered at m.left)
   where
-    by : (recons held : Bool) → LeftAtNode (cond recons (Refused OutOfPhase) (cond (not held) (Refused NotHeld) Accepted)) (weakened_by c (node_of before)) before r.node
+    by : (recons held : Bool) → LeftAtNode (cond recons (Err OutOfPhase) (cond (not held) (Err NotHeld) (Ok tt))) (weakened_by c (node_of before)) before r.node
         → node_of r.node ≡ cond (recons || not held) (node_of before) (weakened_by c (node_of before))
     by true held l = ap node_of l
     by false true l = l
@@ -36,7 +36,7 @@ after-tick : {before : NodeRecord} {r : NodeStep} → MeetsAtNode (tick_answer (
     → node_of r.node ≡ ticked_within (node_of before)
 after-tick {before} {r} m = by (ltb entry_limit (length (node_of before).entries)) (rw m.answered at m.left)
   where
-    by : (many : Bool) → LeftAtNode (cond many (Refused OutOfLimits) Accepted) (ticked (node_of before)) before r.node
+    by : (many : Bool) → LeftAtNode (cond many (Err OutOfLimits) (Ok tt)) (ticked (node_of before)) before r.node
         → node_of r.node ≡ cond many (node_of before) (ticked (node_of before))
     by true l = ap node_of l
     by false l = l
