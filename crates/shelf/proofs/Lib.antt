@@ -1,5 +1,4 @@
-pub mod All
+pub mod Changed
 pub mod Entered
-pub mod Gathers
 pub mod Lists
-pub mod Tables
+pub mod Looked

@@ -2,12 +2,13 @@
 ghost use Rattle.shelf.specs.Shelf.{ImagesLent, PicksOnly, StepsLent, ReadsLent};
 ghost use Rattle.taking.specs.Reads.{AnswersLent};
 
-use crate::table::{
-    look, put_back, put_client, put_others, take_all, take_client, take_clients, take_node,
-};
+use crate::table::{are_tables, change, gather, put_at, record_at, see};
 use calls::{Answer, Reading};
-use records::{ClientRecord, NodeRecord, Sizes};
-use taking::{Found, PickRequest, ReadRequest, Request, SizedRead};
+use reading::has_picked;
+use records::{ClientRecord, NodeRecord, Refusal, Sizes};
+use step::{Clients, Stripe};
+use stripe::{Nodes, Seen};
+use taking::{PickRequest, ReadRequest, Request, SizedRead};
 
 // Every call but read and pick.
 pub fn step(
@@ -22,15 +23,33 @@ pub fn step(
     ensures { StepsLent nodes.old clients.old blocks.old spare.old differences.old
         value.now request result nodes.new clients.new blocks.new spare.new differences.new }
 {
-    let c = request.client();
-    let client = take_client(clients, c);
-    let sought = client.sought(request);
-    let looked = look(nodes, sought);
-    let found = take_node(nodes, looked);
-    let r = found.step(client, blocks, spare, differences, value, request);
-    put_back(nodes, r.back);
-    put_others(nodes, r.others);
-    put_client(clients, r.client);
+    let Request { z, call } = request;
+    if !are_tables(nodes, clients, z) {
+        return Answer::Refused(Refusal::OutOfLimits);
+    }
+    let c = call.caller();
+    let client = record_at(clients, c as usize, ClientRecord::fresh());
+    let j = call.target(z, client);
+    let node = record_at(nodes, j, NodeRecord::failed());
+    let seen = if call.looks_at_all() {
+        see(nodes, z, c)
+    } else {
+        Seen::none()
+    };
+    let r = step::step(
+        z,
+        call,
+        seen,
+        node,
+        client,
+        value,
+        blocks,
+        spare,
+        differences,
+    );
+    put_at(nodes, j, r.node);
+    change(nodes, r.change);
+    put_at(clients, c as usize, r.client);
     r.answer
 }
 
@@ -38,13 +57,24 @@ pub fn step(
 pub fn read_answer(nodes: &[NodeRecord], clients: &[ClientRecord], request: SizedRead) -> Answer
     ensures { AnswersLent nodes.now clients.now request result }
 {
-    let own = request.sought();
-    let found = take_node(nodes, own);
-    let c = found.holder();
-    let client = take_client(clients, c);
-    let sought = client.sought_to_read(request);
-    let looked = look(nodes, sought);
-    looked.read(found, client, request)
+    let SizedRead {
+        z,
+        i,
+        blocks,
+        spare,
+    } = request;
+    if !are_tables(nodes, clients, z) {
+        return Answer::Refused(Refusal::OutOfLimits);
+    }
+    let node = record_at(nodes, i as usize, NodeRecord::failed());
+    let c = node.holder_number();
+    let client = record_at(clients, c as usize, ClientRecord::fresh());
+    let seen = if has_picked(client) {
+        see(nodes, z, c)
+    } else {
+        Seen::none()
+    };
+    reading::read(z, i, seen, node, client, blocks, spare)
 }
 
 // The block of data node i, a part of the blocks or of the spare, and the answer, which tells of which.
@@ -57,9 +87,7 @@ pub fn read<'a>(
 ) -> Reading<'a>
     ensures { ReadsLent nodes.now clients.now blocks.now spare.now request result.answer result.part.now }
 {
-    let live = blocks.len();
-    let kept = spare.len();
-    let sized = request.sized(live, kept);
+    let sized = request.sized(blocks.len(), spare.len());
     let answer = read_answer(nodes, clients, sized);
     let part = sized.part(answer, blocks, spare);
     Reading { part, answer }
@@ -78,15 +106,17 @@ pub fn pick(
     ensures { PicksOnly nodes.old clients.old blocks.old spare.old differences.old
         value.now request result nodes.new clients.new blocks.new spare.new differences.new }
 {
-    let c = request.client();
-    let client = take_client(clients, c);
-    let looked = client.sought_for_pick(request);
-    let found = take_node(nodes, looked);
-    let taken = take_all(nodes, found);
-    let r = taken.pick(client, blocks, spare, differences, value, request);
-    put_back(nodes, r.back);
-    put_others(nodes, r.others);
-    put_client(clients, r.client);
+    let PickRequest { z, c } = request;
+    if !are_tables(nodes, clients, z) || z.n > Sizes::NODES {
+        return Answer::Refused(Refusal::OutOfLimits);
+    }
+    let client = record_at(clients, c as usize, ClientRecord::fresh());
+    let all = Nodes {
+        items: gather(nodes, NodeRecord::failed()),
+    };
+    let r = picking::pick(z, c, all, client, blocks, spare);
+    change(nodes, r.change);
+    put_at(clients, c as usize, r.client);
     r.answer
 }
 
@@ -103,8 +133,16 @@ pub fn image(
     ensures { ImagesLent nodes.now clients.now out.old blocks.now differences.now
         spare.now z result out.new }
 {
-    let none = Found::none(z);
-    let taken = take_all(nodes, none);
-    let records = take_clients(clients, taken);
-    records.image(out, blocks, differences, spare, z)
+    if !are_tables(nodes, clients, z) || z.n > Sizes::NODES || z.m > Sizes::CLIENTS {
+        return Answer::Refused(Refusal::OutOfLimits);
+    }
+    let stripe = Stripe {
+        nodes: Nodes {
+            items: gather(nodes, NodeRecord::failed()),
+        },
+        clients: Clients {
+            items: gather(clients, ClientRecord::fresh()),
+        },
+    };
+    imaging::write(z, stripe, blocks, differences, spare, out)
 }

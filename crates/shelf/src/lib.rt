@@ -1,29 +1,23 @@
 // Document 01, "Records": the "thin entry points with the n node records lent as one table", and the m client records as another.
 //
-// An entry point takes the client's record and the node's out of their tables, steps them by value, and puts them back (entry.rt):
+// An entry point takes the client's record and the node's out of their tables, steps them by value, and puts them back:
 //
-//     let c = request.client();
-//     let client = take_client(clients, c);
-//     let sought = client.sought(request);
-//     let looked = look(nodes, sought);
-//     let found = take_node(nodes, looked);
-//     let r = found.step(client, blocks, spare, differences, value, request);
-//     put_back(nodes, r.back);
-//     put_others(nodes, r.others);
-//     put_client(clients, r.client);
+//     let client = record_at(clients, c as usize, ClientRecord::fresh());
+//     let j = call.target(z, client);
+//     let node = record_at(nodes, j, NodeRecord::failed());
+//     let r = step::step(z, call, seen, node, client, value, blocks, spare, differences);
+//     put_at(nodes, j, r.node);
+//     change(nodes, r.change);
+//     put_at(clients, c as usize, r.client);
 //     r.answer
 //
-// A call on the whole stripe looks at each record where it lies (Seen), and changes the others where they lie (Change); for every other call those two loops
-// over the table have no turn. A pick takes all records out, and one only in form: it looks for node 0, which no table has, so that step and pick put back by
-// the same loops. They have one parameter list, and a pick leaves what it does not need as it is. An image takes all records out of both tables, and puts none back. A
-// read takes out its node's record and that of the client that holds it, looks at all records if that client has picked, and puts none back. A node that is
-// not in the table counts as failed, a client as fresh. A table of another length than n or m is answered 1.
-//
-// The functions of table.rt and entry.rt do nothing else. What their loops keep from turn to turn is said once for every such loop, in crate lent. All the
-// rest is by value, in crate taking.
+// A call on the whole stripe looks at each record where it lies (see), and changes the others where they lie (change). A pick takes all records out, and
+// puts back none but by the change; it has the parameter list of a step, and leaves what it does not need as it is. An image takes all records out of both
+// tables, and puts none back. A read takes out its node's record and that of the client that holds it, looks at all records if that client has picked, and
+// puts none back. A node that is not in the table counts as failed, a client as fresh. A table of another length than n or m is answered 1.
 #![tactic(auto)]
 
 mod entry; // entry.rt: the entry points
-mod table; // table.rt: the loops over the tables
+mod table; // table.rt: the lent tables
 
 pub use entry::{image, pick, read, read_answer, step};

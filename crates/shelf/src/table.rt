@@ -1,122 +1,67 @@
-// A table is looked at, and changed. The loops are of two forms (crate lent).
-ghost use Rattle.taking.specs.Images.{ClientsTook};
-ghost use Rattle.taking.specs.Picks.{AllTook};
-ghost use Rattle.taking.specs.Table.{ClientTaken, NodesSeen, NodeFound};
-ghost use Rattle.shelf.specs.Table.{PutBack, PutOthers, PutClient};
+// The lent tables. Records are counted from 1: record j is at place j - 1.
+ghost use Rattle.std.specs.Prelude.{◌&&◌, ◌≡◌, ◌≤◌, eqb, length, take};
+ghost use Rattle.basics.specs.Lists.{element_at, set_at};
+ghost use Rattle.stripe.specs.Seen.{Sees, applied, keep};
+ghost use Rattle.taking.specs.Table.{nodes_in};
 
-use records::{ClientRecord, NodeRecord};
-use taking::{AllRecords, AllTaken, Back, Found, Looked, Others, Sought, TakenClient};
+use records::{ClientRecord, NodeRecord, Sizes};
+use stripe::{Change, Seen};
 
-pub(crate) fn take_client(clients: &[ClientRecord], c: u8) -> TakenClient
-    ensures { ClientTaken clients.now c result }
+// Whether the tables have n and m records.
+pub(crate) fn are_tables(nodes: &[NodeRecord], clients: &[ClientRecord], z: Sizes) -> bool
+    ensures { result ≡ (eqb (length nodes.now) z.n && eqb (length clients.now) z.m) }
 {
-    let len = clients.len();
-    let mut taken = TakenClient::begin(c, len);
-    let mut i = taken.first();
-    let end = taken.end();
-    while i < end {
-        let client = clients[i];
-        taken = taken.see(i, client);
-        i = i + 1;
-    }
-    taken
+    nodes.len() == z.n && clients.len() == z.m
 }
 
-pub(crate) fn put_client(clients: &mut [ClientRecord], taken: TakenClient)
-    ensures { PutClient clients.old taken clients.new }
+// Record j of a table; `absent` where there is none.
+pub(crate) fn record_at<T: Copy>(table: &[T], j: usize, absent: T) -> T
+    ensures { result ≡ element_at absent table.now j }
 {
-    let len = clients.len();
-    let mut i = taken.first();
-    let end = taken.end_in(len);
-    while i < end {
-        let client = clients[i];
-        clients[i] = taken.at(i, client);
-        i = i + 1;
+    if 1 <= j && j <= table.len() {
+        table[j - 1]
+    } else {
+        absent
     }
 }
 
-pub(crate) fn look(nodes: &[NodeRecord], sought: Sought) -> Looked
-    ensures { NodesSeen nodes.now sought result }
+// Record j of a table becomes `item`; where there is none, the table stays.
+pub(crate) fn put_at<T: Copy>(table: &mut [T], j: usize, item: T)
+    ensures { table.new ≡ set_at table.old j item }
 {
-    let len = nodes.len();
-    let mut looked = sought.begin(len);
-    let mut i = looked.first();
-    let end = looked.end();
-    while i < end {
-        let node = nodes[i];
-        looked = looked.see(i, node);
-        i = i + 1;
-    }
-    looked
-}
-
-pub(crate) fn take_node(nodes: &[NodeRecord], looked: Looked) -> Found
-    ensures { NodeFound nodes.now looked result }
-{
-    let len = nodes.len();
-    let mut found = looked.begin(len);
-    let mut i = found.first();
-    let end = found.end();
-    while i < end {
-        let node = nodes[i];
-        found = found.see(i, node);
-        i = i + 1;
-    }
-    found
-}
-
-pub(crate) fn take_all(nodes: &[NodeRecord], found: Found) -> AllTaken
-    ensures { AllTook nodes.now found result }
-{
-    let len = nodes.len();
-    let mut taken = AllTaken::begin(found, len);
-    let mut i = taken.first();
-    let end = taken.end();
-    while i < end {
-        let node = nodes[i];
-        taken.nodes.items[i] = node;
-        i = i + 1;
-    }
-    taken
-}
-
-pub(crate) fn take_clients(clients: &[ClientRecord], taken: AllTaken) -> AllRecords
-    ensures { ClientsTook clients.now taken result }
-{
-    let len = clients.len();
-    let mut all = AllRecords::begin(taken, len);
-    let mut i = all.first();
-    let end = all.end();
-    while i < end {
-        let client = clients[i];
-        all.clients.items[i] = client;
-        i = i + 1;
-    }
-    all
-}
-
-pub(crate) fn put_back(nodes: &mut [NodeRecord], back: Back)
-    ensures { PutBack nodes.old back nodes.new }
-{
-    let len = nodes.len();
-    let mut i = back.first();
-    let end = back.end_in(len);
-    while i < end {
-        let node = nodes[i];
-        nodes[i] = back.at(i, node);
-        i = i + 1;
+    if 1 <= j && j <= table.len() {
+        table[j - 1] = item;
     }
 }
 
-pub(crate) fn put_others(nodes: &mut [NodeRecord], others: Others)
-    ensures { PutOthers nodes.old others nodes.new }
+// The records of a table, in an array whose other places are `blank`.
+pub(crate) fn gather<T: Copy, const N: usize>(table: &[T], blank: T) -> [T; N]
+    requires { length table.now ≤ N }
+    ensures { take (length table.now) result ≡ table.now }
 {
-    let len = nodes.len();
-    let mut i = others.first();
-    let end = others.end_in(len);
-    while i < end {
-        let node = nodes[i];
-        nodes[i] = others.at(i, node);
-        i = i + 1;
+    let mut items = [blank; N];
+    items[..table.len()].copy_from_slice(table);
+    items
+}
+
+// What is seen of all nodes.
+pub(crate) fn see(nodes: &[NodeRecord], z: Sizes, c: u8) -> Seen
+    ensures { length nodes.now ≡ z.n → Sees z c (nodes_in nodes.now) result }
+{
+    let mut seen = Seen::none();
+    for node in nodes {
+        seen = seen.with(z, c, *node);
+    }
+    seen
+}
+
+// The nodes that a change touches, changed where they lie.
+pub(crate) fn change(nodes: &mut [NodeRecord], change: Change)
+    ensures nodes_are { nodes_in nodes.new ≡ applied change (nodes_in nodes.old) }
+    ensures same { change ≡ keep → nodes.new ≡ nodes.old }
+{
+    let n = nodes.len();
+    for i in change.first(n)..change.end(n) {
+        nodes[i] = change.made(i, nodes[i]);
     }
 }

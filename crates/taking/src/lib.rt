@@ -1,16 +1,12 @@
-// A call on the records that were taken out of their tables: what is looked for, the step by value, what is put back. The tables are in crate shelf.
+// The requests of the entry points on lent tables (crate shelf), and in specs/ what such tables are as a stripe.
 #![tactic(auto)]
 
-mod images; // images.rt: an image, of the records of all nodes and all clients
-mod picks; // picks.rt: a pick, on the records of all nodes
-mod reads; // reads.rt: a read, on the records that it goes by
-mod records_at; // records_at.rt: a record that is taken out of its table, and put back
-mod steps; // steps.rt: the call on what was taken out
+ghost use Rattle.std.specs.Prelude.{◌≡◌};
+ghost use Rattle.calls.specs.Answers.{shown_part};
+ghost use Rattle.taking.specs.Reads.{sized_of};
 
-use calls::{Answer, StepCall};
-use records::{ClientRecord, NodeRecord, Sizes};
-use step::Clients;
-use stripe::{Change, Nodes, Seen};
+use calls::{Answer, StepCall, shown_part};
+use records::Sizes;
 
 // Every call but read and pick. The bytes of a swap or a failure are beside it.
 #[derive(Clone, Copy)]
@@ -42,73 +38,25 @@ pub struct PickRequest {
     pub c: u8,
 }
 
-// Client c's record, out of a table of `len`; a fresh one if it is not there.
-#[derive(Clone, Copy)]
-pub struct TakenClient {
-    pub c: u8,
-    pub len: usize,
-    pub client: ClientRecord,
+impl ReadRequest {
+    pub fn sized(self, blocks: usize, spare: usize) -> SizedRead
+        ensures { result ≡ sized_of self blocks spare }
+    {
+        let ReadRequest { z, i } = self;
+        SizedRead {
+            z,
+            i,
+            blocks,
+            spare,
+        }
+    }
 }
 
-// Node j is looked for, and all nodes are looked at for client c if `all`.
-#[derive(Clone, Copy)]
-pub struct Sought {
-    pub z: Sizes,
-    pub c: u8,
-    pub j: usize,
-    pub all: bool,
-}
-
-// What was seen of all nodes, in a table of `len`.
-#[derive(Clone, Copy)]
-pub struct Looked {
-    pub sought: Sought,
-    pub len: usize,
-    pub seen: Seen,
-}
-
-// The record of the node too, out of a table of `len`; that of a failed node if it is not there.
-#[derive(Clone, Copy)]
-pub struct Found {
-    pub looked: Looked,
-    pub len: usize,
-    pub node: NodeRecord,
-}
-
-// All records of a table of `len`, if they are 18 at most.
-#[derive(Clone, Copy)]
-pub struct AllTaken {
-    pub len: usize,
-    pub nodes: Nodes,
-}
-
-// All records of a table of `len` clients too, if they are 8 at most.
-#[derive(Clone, Copy)]
-pub struct AllRecords {
-    pub len: usize,
-    pub clients: Clients,
-    pub taken: AllTaken,
-}
-
-// Node j's record, which is put back.
-#[derive(Clone, Copy)]
-pub struct Back {
-    pub j: usize,
-    pub node: NodeRecord,
-}
-
-// What becomes of the other nodes, in a table of `len`.
-#[derive(Clone, Copy)]
-pub struct Others {
-    pub len: usize,
-    pub change: Change,
-}
-
-// What a call hands back.
-#[derive(Clone, Copy)]
-pub struct Returned {
-    pub back: Back,
-    pub others: Others,
-    pub client: TakenClient,
-    pub answer: Answer,
+impl SizedRead {
+    // The block that an answer names.
+    pub fn part<'a>(self, answer: Answer, blocks: &'a [u8], spare: &'a [u8]) -> &'a [u8]
+        ensures { result.now ≡ shown_part answer self.z.b self.i blocks.now spare.now }
+    {
+        shown_part(answer, self.z.b, self.i as usize, blocks, spare)
+    }
 }
