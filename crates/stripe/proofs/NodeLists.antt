@@ -2,12 +2,16 @@
 use mathlib.Core.Path.{◌≡◌, refl, sym, ap, ◌∙◌}
 use mathlib.Core.Logic.{◌≢◌}
 use mathlib.Core.Bool.{Bool, true, false, cond, ◌&&◌, ◌||◌, not}
-use mathlib.Core.List.{List, [], ◌∷◌, ◌++◌}
+use mathlib.Core.List.{List, [], ◌∷◌, ◌++◌, map}
 use Prim.Native.Nat.{ℕ, zero, suc, ◌+◌, ◌-◌, ◌≤◌, ◌<◌, max}
 use native.Mathlib.Decide.{ℕ_discrete}
 use native.Mathlib.Omega.{arith}
-use lib.ListN.{length, get_or, set, length-set, get_or-eq_default}
+use lib.ListN.{length, get_or, set, take, length-set, length-map, length-take, get_or-map, get_or-eq_default}
 use lib.Seq.{ext_get_or, get_or-set_same, get_or-set_other}
+use Rattle.std.specs.List.{list_all, list_any, count_by}
+use Rattle.std.proofs.lemmas.List.{get_or-take, get_or_default}
+use Rattle.std.proofs.lemmas.List.Folds.{list_all-map}
+use Rattle.std.proofs.lemmas.List.Recursion.{same_from_clauses, is_count_by}
 use denote.Laws.{Is}
 use denote.Struct.Declared.{row}
 use mir.Val.{Val}
@@ -29,6 +33,29 @@ use Rattle.stripe.specs.contracts.nodes.Nodes.{the_type}
 
 pub eighteen : (x : Nodes) (vs : List Val) → Is (row the_type) x vs → length x.items ≡ 18
 eighteen x vs g = g.1.1.0.1.0.1
+
+-- the n nodes are seen through the first n items
+pub list_of-take : {A B : Type 0} (f : A → B) (l : List A) (d : A) (n : ℕ) → n ≤ length l → list_of n (λ i. f (get_or l i d)) ≡ map f (take n l)
+list_of-take f l d n h =
+    ext_get_or (f d) _ _ (length-list_of n (λ i. f (get_or l i d)) ∙ simp (length-map, length-take) (omega arith))
+    (λ p b. let q : p < n = omega (arith, length-list_of n (λ i. f (get_or l i d))) in
+    get_or-list_of n (λ i. f (get_or l i d)) p (f d) q ∙ sym (get_or-map f (take n l) p d ∙ ap f (get_or-take n l p d q)))
+
+pub nodes-map : (n : ℕ) (x : Nodes) → n ≤ length x.items → nodes_of n x ≡ map node_of (take n x.items)
+nodes-map n x h = list_of-take node_of x.items blank_record n h
+
+module _ (p : Node → Bool) (n : ℕ) (x : Nodes) (h : n ≤ length x.items) where
+  pub every-node : list_all (λ r. p (node_of r)) (take n x.items) ≡ every_of p (nodes_of n x)
+  unfolding every_of
+  every-node = rw (nodes-map n x h) (sym (list_all-map p node_of (take n x.items)) ∙ same_from_clauses (list_all p) (every_of p) (λ y b. p y && b) refl (λ y l. refl) (λ y l. refl) (map node_of (take n x.items)))
+
+  pub some-node : list_any (λ r. p (node_of r)) (take n x.items) ≡ some_of p (nodes_of n x)
+  unfolding some_of
+  some-node = rw (nodes-map n x h) (go (take n x.items))
+    where
+      go : (l : List NodeRecord) → list_any (λ r. p (node_of r)) l ≡ some_of p (map node_of l)
+      go [] = refl
+      go (y ∷ l) = ap (λ b. p (node_of y) || b) (go l)
 
 pub nodes-count : (n : ℕ) (x : Nodes) → length (nodes_of n x) ≡ n
 nodes-count n x = length-list_of n (λ i. node_of (record_at x i))
@@ -104,22 +131,18 @@ within-counted z n x e = record {
       at (every-at (node_within z) (nodes_of n x) failed_node i e (rw (nodes-count n x) h)));
 }
 
--- ---- the number of INIT nodes, the largest epoch: one node more
+-- one of the first n records has few entries
+pub counted-item : {n : ℕ} {x : Nodes} → Counted n x → (i : ℕ) (r : NodeRecord) → i < length (take n x.items) → r ≡ get_or (take n x.items) i r
+    → r.entries.count ≤ 16
+counted-item {n} {x} q i r h e =
+    let b : i < n = omega (arith, length-take n x.items) in
+    rw (e, get_or-take n x.items i r b, get_or_default x.items i r blank_record (omega (arith, length-take n x.items))) (q.few i b)
 
-init-last : (l : List Node) (x : Node) → count_init (l ++ (x ∷ [])) ≡ cond (is_init x.opmode) (count_init l + 1) (count_init l)
+-- ---- the number of INIT nodes, the largest epoch, what is seen: one node more
+
+pub init-nodes : (n : ℕ) (x : Nodes) → n ≤ length x.items → count_by (λ r. is_init r.opmode) (take n x.items) ≡ count_init (nodes_of n x)
 unfolding count_init
-init-last [] x = by (is_init x.opmode)
-  where
-    by : (a : Bool) → cond a (suc 0) 0 ≡ cond a (0 + 1) 0
-    by true = refl
-    by false = refl
-init-last (y ∷ l) x = by (is_init x.opmode) (is_init y.opmode) (count_init (l ++ (x ∷ []))) (count_init l) (init-last l x)
-  where
-    by : (a b : Bool) (m n : ℕ) → m ≡ cond a (n + 1) n → cond b (suc m) m ≡ cond a (cond b (suc n) n + 1) (cond b (suc n) n)
-    by true true m n e = omega arith
-    by true false m n e = e
-    by false true m n e = omega arith
-    by false false m n e = e
+init-nodes n x h = rw (nodes-map n x h) (sym (is_count_by (λ l. count_init (map node_of l)) (λ r. is_init r.opmode) refl (λ y l. let e : suc (count_init (map node_of l)) ≡ 1 + count_init (map node_of l) = omega arith in rw e) (take n x.items)))
 
 pub init-few : (l : List Node) → count_init l ≤ length l
 unfolding count_init
@@ -130,17 +153,11 @@ init-few (x ∷ l) = by (is_init x.opmode) (init-few l)
     by true h = omega arith
     by false h = omega arith
 
-epoch-last : (l : List Node) (x : Node) → largest_epoch (l ++ (x ∷ [])) ≡ max x.epoch.0 (largest_epoch l)
+-- the first i + 1 records, seen
+pub one-more : (l : List NodeRecord) (i : ℕ) → i < length l → map node_of (take (i + 1) l) ≡ map node_of (take i l) ++ (node_of (get_or l i blank_record) ∷ [])
+one-more l i h = sym (list_of-take node_of l blank_record (i + 1) (omega arith)) ∙ list_of-more i (λ p. node_of (get_or l p blank_record)) ∙ ap (λ a. a ++ (node_of (get_or l i blank_record) ∷ [])) (list_of-take node_of l blank_record i (omega arith))
+
+pub epoch-last : (l : List Node) (x : Node) → largest_epoch (l ++ (x ∷ [])) ≡ max x.epoch.0 (largest_epoch l)
 unfolding largest_epoch
 epoch-last [] x = refl
 epoch-last (y ∷ l) x = rw (epoch-last l x) (omega arith)
-
-module _ (x : Nodes) (i : ℕ) where
-  pub init-more : {count r : ℕ} → count ≡ count_init (nodes_of i x) → r ≡ cond (is_init (record_at x i).opmode) (count + 1) count
-      → r ≡ count_init (nodes_of (i + 1) x)
-  init-more q e =
-      e ∙ rw q (sym (ap count_init (list_of-more i (λ p. node_of (record_at x p))) ∙ init-last (nodes_of i x) (node_of (record_at x i))))
-
-  pub epoch-more : {e r : ℕ} → e ≡ largest_epoch (nodes_of i x) → r ≡ max (record_at x i).epoch.0 e → r ≡ largest_epoch (nodes_of (i + 1) x)
-  epoch-more q e =
-      e ∙ rw q (sym (ap largest_epoch (list_of-more i (λ p. node_of (record_at x p))) ∙ epoch-last (nodes_of i x) (node_of (record_at x i))))

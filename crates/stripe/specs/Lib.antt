@@ -1,4 +1,3 @@
 pub mod View
-pub mod Nodes
 pub mod Seen
 pub mod Sets

@@ -7,61 +7,16 @@ ghost use Rattle.records.specs.Node.{is_init, held_at_l1, node_within};
 ghost use Rattle.records.specs.View.{node_of};
 ghost use Rattle.records.specs.Sizes.{node_limit, sizes_within};
 ghost use Rattle.stripe.specs.Seen.{Sees, applied};
-ghost use Rattle.stripe.specs.Nodes.{passes, Readable};
 ghost use Rattle.stripe.specs.View.{record_at, nodes_of};
 
 use crate::seen::{Change, Seen};
-use entries::{Epoch, WriteId};
+use entries::Epoch;
 use records::{NodeRecord, Sizes};
 
 // Node j is item j - 1; a stripe of n nodes has the first n items.
 #[derive(Clone, Copy)]
 pub struct Nodes {
     pub items: [NodeRecord; Sizes::NODES],
-}
-
-// What is asked of a node.
-#[derive(Clone, Copy)]
-pub enum NodeTest {
-    Outside(Sizes),
-    NotHeldAtL1(u8),
-    Recons,
-    OldAtNorm(WriteId),
-    Rebuilding(usize),
-}
-
-impl NodeTest {
-    fn is_passed(self, node: NodeRecord) -> bool
-        requires { Readable self node }
-        ensures { result ≡ passes self (node_of node) }
-    {
-        let opmode = node.opmode;
-        let rset = node.rset;
-        match self {
-            NodeTest::Outside(z) => !node.is_within(z),
-            NodeTest::NotHeldAtL1(c) => !node.held_at_l1(c),
-            NodeTest::Recons => opmode.is_recons(),
-            NodeTest::OldAtNorm(id) => opmode.is_norm() && node.entries.has_old(id),
-            NodeTest::Rebuilding(j) => rset.contains(j),
-        }
-    }
-}
-
-// The number of INIT nodes, one node later.
-fn count_one(count: usize, node: NodeRecord) -> usize
-    requires { count < node_limit }
-    ensures { result ≡ cond (is_init node.opmode) (count + 1) count }
-{
-    let opmode = node.opmode;
-    if opmode.is_init() { count + 1 } else { count }
-}
-
-// The largest epoch, one node later.
-fn larger_epoch(largest: Epoch, node: NodeRecord) -> Epoch
-    ensures { result.0 ≡ max node.epoch.0 largest.0 }
-{
-    let epoch = node.epoch;
-    if largest.0 < epoch.0 { epoch } else { largest }
 }
 
 impl Nodes {
@@ -80,69 +35,46 @@ impl Nodes {
         self
     }
 
-    // Whether some node passes the test.
-    pub(crate) fn any(self, n: usize, test: NodeTest) -> bool
-        requires { (n ≤ node_limit) × ((i : ℕ) → i < n → Readable test (record_at self i)) }
-        ensures { result ≡ some_of (passes test) (nodes_of n self) }
-    {
-        let mut i = 0;
-        while i < n {
-            let node = self.items[i];
-            if test.is_passed(node) {
-                return true;
-            }
-            i += 1;
-        }
-        false
-    }
-
     pub fn are_within(self, z: Sizes) -> bool
         requires { z.n ≤ node_limit }
         ensures { result ≡ every_of (node_within z) (nodes_of z.n self) }
     {
-        !self.any(z.n, NodeTest::Outside(z))
+        self.items[..z.n].iter().all(|node| node.is_within(z))
     }
 
     pub fn all_held_at_l1(self, n: usize, c: u8) -> bool
         requires { n ≤ node_limit }
         ensures { result ≡ every_of (held_at_l1 c) (nodes_of n self) }
     {
-        !self.any(n, NodeTest::NotHeldAtL1(c))
+        self.items[..n].iter().all(|node| node.held_at_l1(c))
     }
 
     pub fn some_recons(self, n: usize) -> bool
         requires { n ≤ node_limit }
         ensures { result ≡ some_recons (nodes_of n self) }
     {
-        self.any(n, NodeTest::Recons)
+        self.items[..n].iter().any(|node| node.opmode.is_recons())
     }
 
     pub fn count_init(self, n: usize) -> usize
         requires { n ≤ node_limit }
         ensures { result ≡ count_init (nodes_of n self) }
     {
-        let mut count = 0;
-        let mut i = 0;
-        while i < n {
-            let node = self.items[i];
-            count = count_one(count, node);
-            i += 1;
-        }
-        count
+        self.items[..n]
+            .iter()
+            .filter(|node| node.opmode.is_init())
+            .count()
     }
 
     pub fn largest_epoch(self, n: usize) -> Epoch
         requires { n ≤ node_limit }
         ensures { result.0 ≡ largest_epoch (nodes_of n self) }
     {
-        let mut largest = Epoch(0);
-        let mut i = 0;
-        while i < n {
-            let node = self.items[i];
-            largest = larger_epoch(largest, node);
-            i += 1;
+        let mut largest = 0;
+        for node in &self.items[..n] {
+            largest = node.epoch.0.max(largest);
         }
-        largest
+        Epoch(largest)
     }
 
     // What is seen of all n nodes.
@@ -153,12 +85,8 @@ impl Nodes {
         if !z.within() {
             return seen;
         }
-        let n = z.n;
-        let mut i = 0;
-        while i < n {
-            let node = self.items[i];
-            seen = seen.with(z, c, node);
-            i += 1;
+        for node in &self.items[..z.n] {
+            seen = seen.with(z, c, *node);
         }
         seen
     }
@@ -168,12 +96,8 @@ impl Nodes {
         requires { n ≤ node_limit }
         ensures { nodes_of n result ≡ applied change (nodes_of n self) }
     {
-        let end = change.end(n);
-        let mut i = change.first(n);
-        while i < end {
-            let node = self.items[i];
-            self.items[i] = change.made(i, node);
-            i += 1;
+        for i in change.first(n)..change.end(n) {
+            self.items[i] = change.made(i, self.items[i]);
         }
         self
     }

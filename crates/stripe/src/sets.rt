@@ -13,7 +13,7 @@ ghost use Rattle.records.specs.Sizes.{node_limit};
 ghost use Rattle.stripe.specs.Sets.{fits_beside, is_resumed, larger, Knows};
 ghost use Rattle.stripe.specs.View.{recent_of, nodes_of, Counted};
 
-use crate::nodes::{NodeTest, Nodes};
+use crate::nodes::Nodes;
 use code::NodeSet;
 use entries::{Entries, Entry, WriteId, WriteNumber};
 use records::{NodeRecord, Opmode, Sizes};
@@ -142,7 +142,9 @@ impl Nodes {
         requires { (n ≤ node_limit) × Counted n self }
         ensures { result ≡ old_somewhere (nodes_of n self) id }
     {
-        self.any(n, NodeTest::OldAtNorm(id))
+        self.items[..n]
+            .iter()
+            .any(|node| node.opmode.is_norm() && node.entries.has_old(id))
     }
 
     // Whether the entry's id is among the recent ids of its node.
@@ -228,7 +230,7 @@ impl Nodes {
         let node = self.get(j);
         let opmode = node.opmode;
         match opmode {
-            Opmode::Norm => self.any(n, NodeTest::Rebuilding(j)),
+            Opmode::Norm => self.items[..n].iter().any(|node| node.rset.contains(j)),
             Opmode::Recons => true,
             Opmode::Init => false,
         }

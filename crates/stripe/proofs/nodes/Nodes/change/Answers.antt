@@ -29,7 +29,7 @@ returns c = let a = c.args in
     let i : p < n = omega arith in
     let l : p < end_of a.change n = rw e at g in
     node-there n c.loop-i.self p i
-    ∙ c.loop-i.invariant.done p (rw e at f) (omega (arith, l, c.end-end.ensures.0))
+    ∙ c.loop-i.invariant.done p (rw e at f) (omega (arith, l, c.end-i-end.ensures.0))
     ∙ ap (changed_at a.change p) (sym (node-there n a.self p i)))
     (λ p h o.
     let i : p < n = omega arith in

@@ -1,22 +1,15 @@
--- count is the number of INIT nodes among the first i. Assumes nothing.
-use mathlib.Core.Path.{refl}
-use native.Mathlib.Omega.{arith}
-use Rattle.basics.specs.Lists.{list_of}
-use Rattle.machine.specs.Rebuild.{count_init}
-use Rattle.stripe.specs.View.{nodes_of}
-use Rattle.stripe.proofs.Loops.{reach-start, reach-on, reach-end}
-use Rattle.stripe.proofs.NodeLists.{init-few, init-more, nodes-count}
+-- The number of the records that pass the test. Assumes nothing.
+use Rattle.std.proofs.Common.{take, arith, rules, tests, ◌∙◌}
+use Rattle.std.proofs.lemmas.Iterator.{YieldsList-from_slice}
+use Rattle.std.proofs.lemmas.Iterator.Consumers.{YieldsList-from_filter, count_from_yields_List}
+use Rattle.std.proofs.lemmas.List.Sums.{length-filter}
+use Rattle.records.specs.Node.{is_init}
+use Rattle.stripe.proofs.NodeLists.{eighteen, init-nodes}
 use Rattle.stripe.proofs.nodes.Nodes.count_init.Goals as goal
 
-pub loop-i-init : goal.loop-i-init
-unfolding count_init list_of
-loop-i-init c = reach-start refl
-
-pub count_one-count-requires : goal.count_one-count-requires
-count_one-count-requires c = omega (arith, c.loop-i.invariant.is, init-few (nodes_of c.loop-i.i c.args.self), nodes-count c.loop-i.i c.args.self)
-
-pub loop-i-preserved : goal.loop-i-preserved
-loop-i-preserved c = reach-on c.loop-i.invariant (omega arith) (init-more c.args.self c.loop-i.i c.loop-i.invariant.is c.count_one-count.ensures)
-
 pub returns : goal.returns
-returns c = reach-end c.loop-i.invariant (omega arith)
+returns c = let a = c.args in
+    count_from_yields_List c.filter.result _ c.count.ensures.ran
+    (YieldsList-from_filter _ (λ r. is_init r.opmode) (YieldsList-from_slice (take a.n a.self.items) cc) c.filter.ensures.closure (λ x b q k. search (rules, tests)))
+    ∙ length-filter (λ r. is_init r.opmode) (take a.n a.self.items)
+    ∙ init-nodes a.n a.self (omega (arith, eighteen a.self _ c.well_formed.0))

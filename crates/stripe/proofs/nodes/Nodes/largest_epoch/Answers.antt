@@ -1,18 +1,19 @@
--- largest is the largest epoch of the first i nodes. Assumes nothing.
-use mathlib.Core.Path.{refl}
-use native.Mathlib.Omega.{arith}
-use Rattle.basics.specs.Lists.{list_of}
+-- largest is the largest epoch of the records so far. Assumes nothing.
+use Rattle.std.proofs.Common.{refl, sym, ap, arith, take, length-take, ◌∙◌}
+use Rattle.std.proofs.lemmas.List.{take_all}
 use Rattle.machine.specs.Rebuild.{largest_epoch}
-use Rattle.stripe.proofs.Loops.{reach-start, reach-on, reach-end}
-use Rattle.stripe.proofs.NodeLists.{epoch-more}
+use Rattle.stripe.proofs.NodeLists.{eighteen, one-more, nodes-map, epoch-last}
 use Rattle.stripe.proofs.nodes.Nodes.largest_epoch.Goals as goal
 
-pub loop-i-init : goal.loop-i-init
-unfolding largest_epoch list_of
-loop-i-init c = reach-start refl
+pub loop-node-init : goal.loop-node-init
+unfolding largest_epoch
+loop-node-init c = refl
 
-pub loop-i-preserved : goal.loop-i-preserved
-loop-i-preserved c = reach-on c.loop-i.invariant (omega arith) (epoch-more c.args.self c.loop-i.i c.loop-i.invariant.is c.larger_epoch-largest.ensures)
+pub loop-node-preserved : goal.loop-node-preserved
+loop-node-preserved c = let a = c.args in
+    rw (one-more (take a.n a.self.items) c.loop-node.node-index (omega arith), epoch-last, ← c.loop-node.invariant) c.max-largest.ensures
 
 pub returns : goal.returns
-returns c = reach-end c.loop-i.invariant (omega arith)
+returns c = let a = c.args in
+    rw (nodes-map a.n a.self (omega (arith, eighteen a.self _ c.well_formed.0)))
+    (rw (take_all c.loop-node.node-index (take a.n a.self.items) (omega arith)) at c.loop-node.invariant)

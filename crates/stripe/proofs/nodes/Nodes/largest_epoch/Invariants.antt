@@ -1,12 +1,8 @@
--- largest is the largest epoch of the first i nodes. Assumes nothing.
-use Prim.Native.Nat.{◌-◌}
+-- largest is the largest epoch of the records so far. Assumes nothing.
+use Rattle.std.proofs.Common.{◌≡◌, map, take}
 use Rattle.machine.specs.Rebuild.{largest_epoch}
-use Rattle.stripe.specs.View.{nodes_of}
-use Rattle.stripe.proofs.Loops.{Reached}
+use Rattle.records.specs.View.{node_of}
 use Rattle.stripe.proofs.nodes.Nodes.largest_epoch.Given as goal
 
-abbrev pub invariant-loop-i : goal.invariant-loop-i
-invariant-loop-i l = Reached (λ p. largest_epoch (nodes_of p l.self)) l.largest.0 l.i l.n
-
-abbrev pub decreases-loop-i : goal.decreases-loop-i
-decreases-loop-i l = l.n - l.i
+abbrev pub invariant-loop-node : goal.invariant-loop-node
+invariant-loop-node l = l.largest ≡ largest_epoch (map node_of (take l.node-index l.node-items))
