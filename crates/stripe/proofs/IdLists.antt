@@ -1,40 +1,48 @@
 -- Lists of recent ids, made id by id. Assumes nothing.
-use mathlib.Core.Path.{◌≡◌, refl, sym, ap, ◌∙◌}
-use mathlib.Core.Bool.{Bool, true, false, cond, ◌&&◌, not}
-use mathlib.Core.List.{List, [], ◌∷◌, ◌++◌}
-use Prim.Native.Nat.{ℕ, suc, ◌+◌, ◌≤◌, ◌<◌}
+use mathlib.Core.Path.{◌≡◌, refl, ap, ◌∙◌}
+use mathlib.Core.Bool.{Bool, true, false, cond, ◌&&◌, ◌||◌, not}
+use mathlib.Core.List.{List, [], ◌∷◌, ◌++◌, map, append-nil}
+use Prim.Native.Nat.{ℕ, suc, ◌≤◌}
 use native.Mathlib.Omega.{arith}
 use lib.Dec.{eqb}
-use lib.ListN.{length, get_or}
-use Rattle.basics.specs.Lists.{list_of}
+use lib.ListN.{length, get_or, take}
+use Rattle.std.specs.List.{list_all, list_any}
+use Rattle.std.proofs.lemmas.List.Recursion.{same_from_clauses}
+use Rattle.basics.specs.Lists.{every_of}
 use Rattle.basics.proofs.Lists.{length-list_of}
 use Rattle.machine.specs.Rebuild.{old_somewhere, recent_ids, at_position}
 use Rattle.entries.specs.declared.WriteId.{WriteId}
 use Rattle.entries.specs.Entries.{same_id, is_recent, is_in}
 use Rattle.entries.specs.View.{blank_id}
-use Rattle.entries.proofs.Lists.{list_of-more, Search}
 use Rattle.records.specs.Node.{Node}
 use Rattle.stripe.specs.declared.sets.RecentIds.{RecentIds}
 use Rattle.stripe.specs.View.{recent_of}
+use Rattle.stripe.proofs.NodeLists.{list_of-take}
 
 pub recent-count : (s : RecentIds) → length (recent_of s) ≡ s.count
 recent-count s = length-list_of s.count (λ i. get_or s.items i blank_id)
 
-pub ids-search : (id : WriteId) → Search (λ x. same_id x id) (is_in id)
+-- the list is the first items of the array
+pub recent-take : (s : RecentIds) → s.count ≤ length s.items → recent_of s ≡ take s.count s.items
+recent-take s h = list_of-take (λ x. x) s.items blank_id s.count h ∙ go (take s.count s.items)
+  where
+    go : (l : List WriteId) → map (λ x. x) l ≡ l
+    go [] = refl
+    go (x ∷ l) = ap (λ y. x ∷ y) (go l)
+
+pub is_in-ids : (id : WriteId) (s : RecentIds) → s.count ≤ length s.items → list_any (λ x. same_id x id) (take s.count s.items) ≡ is_in id (recent_of s)
 unfolding is_in
-ids-search id = record { none = refl; more = λ x l. refl }
+is_in-ids id s h = rw (recent-take s h) (same_from_clauses (list_any (λ x. same_id x id)) (is_in id) (λ x b. same_id x id || b) refl (λ x l. refl) (λ x l. refl) (take s.count s.items))
+
+pub every-id : (p : WriteId → Bool) (s : RecentIds) → s.count ≤ length s.items → list_all p (take s.count s.items) ≡ every_of p (recent_of s)
+unfolding every_of
+every-id p s h = rw (recent-take s h) (same_from_clauses (list_all p) (every_of p) (λ x b. p x && b) refl (λ x l. refl) (λ x l. refl) (take s.count s.items))
 
 -- ---- a loop that keeps a part of each element that passes a test; `kept` is what it keeps of a list
 
 pub record Keep {A : Type 0} (test : A → Bool) (part : A → WriteId) (kept : List A → List WriteId) : Type 0 where
   pub none : kept [] ≡ []
   pub more : (x : A) (l : List A) → kept (x ∷ l) ≡ cond (test x) (part x ∷ kept l) (kept l)
-
--- out has what is kept of the first i of n elements
-pub record Kept {A : Type 0} (kept : List A → List WriteId) (at : ℕ → A) (out : RecentIds) (i n : ℕ) : Type 0 where
-  pub within : i ≤ n
-  pub few : out.count ≤ i
-  pub is : recent_of out ≡ kept (list_of i at)
 
 pub position-keep : (i : ℕ) → Keep (λ x. eqb x.position i) (λ x. x) (at_position i)
 unfolding at_position
@@ -65,21 +73,13 @@ module _ {A : Type 0} {test : A → Bool} {part : A → WriteId} {kept : List A 
   pub keep-count : {l : List A} (r : RecentIds) → recent_of r ≡ kept l → r.count ≤ length l
   keep-count {l} r e = omega (arith, recent-count r, ap length e, keep-few l)
 
-  module _ {at : ℕ → A} {out : RecentIds} {n : ℕ} where
-    pub keep-start : recent_of out ≡ [] → Kept kept at out 0 n
-    unfolding list_of
-    keep-start e = record { within = omega arith; few = omega (arith, recent-count out, ap length e); is = e ∙ sym k.none }
+  -- o has what is kept of the elements so far; x is the next
+  pub keep-start : {o : List WriteId} → o ≡ [] → o ≡ kept []
+  keep-start e = rw k.none e
 
-    module _ {i : ℕ} (q : Kept kept at out i n) where
-      pub keep-on : {r : RecentIds} → i < n → recent_of r ≡ recent_of out ++ cond (test (at i)) (part (at i) ∷ []) [] → Kept kept at r (i + 1) n
-      keep-on {r} h e =
-          let is : recent_of r ≡ kept (list_of (i + 1) at) = e ∙ rw q.is (sym (ap kept (list_of-more i at) ∙ keep-last (list_of i at) (at i))) in
-          record {
-            within = omega arith;
-            few = omega (arith, keep-count r is, length-list_of (i + 1) at);
-            is = is;
-          }
+  module _ (l : List A) (x : A) {o : List WriteId} (q : o ≡ kept l) where
+    pub keep-on : {r : List WriteId} → test x ≡ true → r ≡ o ++ (part x ∷ []) → r ≡ kept (l ++ (x ∷ []))
+    keep-on t e = rw (keep-last, t, ← q) e
 
-pub keep-end : {A : Type 0} {kept : List A → List WriteId} {at : ℕ → A} {out : RecentIds} {i n : ℕ} → Kept kept at out i n → n ≤ i
-    → recent_of out ≡ kept (list_of n at)
-keep-end {i = i} {n = n} q h = let e : i ≡ n = omega arith in rw e at q.is
+    pub keep-off : test x ≡ false → o ≡ kept (l ++ (x ∷ []))
+    keep-off t = rw (keep-last, t, append-nil, ← q)

@@ -1,4 +1,4 @@
--- What the loops cite, a law for each kind of loop. (A loop that looks for an element cites `Searched` of the records.) Assumes nothing.
+-- What a loop that stores place by place cites. Assumes nothing.
 use mathlib.Core.Path.{◌≡◌, refl, ◌∙◌}
 use mathlib.Core.List.{List}
 use Prim.Native.Nat.{ℕ, ◌+◌, ◌≤◌, ◌<◌}
@@ -6,24 +6,6 @@ use native.Mathlib.Decide.{ℕ_discrete}
 use native.Mathlib.Omega.{arith}
 use lib.ListN.{length, get_or, set, length-set}
 use lib.Seq.{get_or-set_same, get_or-set_other}
-
--- ---- a loop that reaches its result turn by turn: after i of n turns it is `at i`
-
-pub record Reached {A : Type 0} (at : ℕ → A) (r : A) (i n : ℕ) : Type 0 where
-  pub within : i ≤ n
-  pub is : r ≡ at i
-
-module _ {A : Type 0} {at : ℕ → A} {n : ℕ} where
-  pub reach-start : {r : A} → r ≡ at 0 → Reached at r 0 n
-  reach-start e = record { within = omega arith; is = e }
-
-  module _ {r : A} {i : ℕ} (q : Reached at r i n) where
-    -- r' is what a turn makes of r
-    pub reach-on : {r' : A} → i < n → r' ≡ at (i + 1) → Reached at r' (i + 1) n
-    reach-on h e = record { within = omega arith; is = e }
-
-    pub reach-end : n ≤ i → r ≡ at n
-    reach-end h = let e : i ≡ n = omega arith in rw e at q.is
 
 -- ---- a loop that stores at each place from a to n in turn. An element is seen through f: places a to i have `new`, the others what they had
 

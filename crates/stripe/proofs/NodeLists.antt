@@ -23,7 +23,7 @@ use Rattle.machine.specs.Stripe.{node_at}
 use Rattle.records.specs.declared.NodeRecord.{NodeRecord}
 use Rattle.records.specs.declared.Sizes.{Sizes}
 use Rattle.machine.specs.Rebuild.{count_init, largest_epoch}
-use Rattle.entries.proofs.Lists.{Search, list_of-more}
+use Rattle.entries.proofs.Lists.{Search}
 use Rattle.records.specs.Node.{Node, failed_node, is_init, node_within}
 use Rattle.records.specs.View.{node_of}
 use Rattle.records.proofs.Limits.{few-entries}
@@ -152,10 +152,6 @@ init-few (x ∷ l) = by (is_init x.opmode) (init-few l)
     by : (b : Bool) → count_init l ≤ length l → cond b (suc (count_init l)) (count_init l) ≤ suc (length l)
     by true h = omega arith
     by false h = omega arith
-
--- the first i + 1 records, seen
-pub one-more : (l : List NodeRecord) (i : ℕ) → i < length l → map node_of (take (i + 1) l) ≡ map node_of (take i l) ++ (node_of (get_or l i blank_record) ∷ [])
-one-more l i h = sym (list_of-take node_of l blank_record (i + 1) (omega arith)) ∙ list_of-more i (λ p. node_of (get_or l p blank_record)) ∙ ap (λ a. a ++ (node_of (get_or l i blank_record) ∷ [])) (list_of-take node_of l blank_record i (omega arith))
 
 pub epoch-last : (l : List Node) (x : Node) → largest_epoch (l ++ (x ∷ [])) ≡ max x.epoch.0 (largest_epoch l)
 unfolding largest_epoch

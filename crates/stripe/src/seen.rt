@@ -45,16 +45,11 @@ impl Seen {
     pub fn with(self, z: Sizes, c: u8, node: NodeRecord) -> Self
         ensures { result ≡ seen_with z c (node_of node) self }
     {
-        let opmode = node.opmode;
-        let within = self.within & node.is_within(z);
-        let held = self.held & node.held_by(c);
-        let tight = self.tight & node.held_at_l1(c);
-        let recons = self.recons | opmode.is_recons();
         Seen {
-            within: within,
-            held: held,
-            tight: tight,
-            recons: recons,
+            within: self.within & node.is_within(z),
+            held: self.held & node.held_by(c),
+            tight: self.tight & node.held_at_l1(c),
+            recons: self.recons | node.opmode.is_recons(),
         }
     }
 }
@@ -64,13 +59,6 @@ fn old_lmode(was_exp: bool) -> Lmode
     ensures { result ≡ old_lmode was_exp }
 {
     if was_exp { Lmode::Exp } else { Lmode::Unl }
-}
-
-// The smaller number.
-fn smaller(a: usize, b: usize) -> usize
-    ensures { result ≡ min a b }
-{
-    if a < b { a } else { b }
 }
 
 // Whether the node at place i was EXP when it was locked.
@@ -116,11 +104,8 @@ impl Change {
         ensures { result ≡ first_of self n }
     {
         match self {
-            Change::Keep => 0,
-            Change::Expire(_) => 0,
-            Change::Restore(_, _, _) => 0,
-            Change::Weaken(k, _) => smaller(k as usize, n),
-            Change::Tick => 0,
+            Change::Weaken(k, _) => (k as usize).min(n),
+            Change::Keep | Change::Expire(_) | Change::Restore(..) | Change::Tick => 0,
         }
     }
 
@@ -130,10 +115,8 @@ impl Change {
     {
         match self {
             Change::Keep => 0,
-            Change::Expire(_) => n,
-            Change::Restore(x, _, _) => smaller(x as usize, n),
-            Change::Weaken(_, _) => n,
-            Change::Tick => n,
+            Change::Restore(x, _, _) => (x as usize).min(n),
+            Change::Expire(_) | Change::Weaken(..) | Change::Tick => n,
         }
     }
 

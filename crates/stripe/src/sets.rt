@@ -3,7 +3,7 @@ ghost use Rattle.std.specs.Prelude.{cond, ◌&&◌, ◌||◌, not, List, [], ◌
 ghost use Rattle.code.specs.Decode.{size};
 ghost use Rattle.code.specs.View.{node_set_of};
 ghost use Rattle.machine.specs.Stripe.{node_at};
-ghost use Rattle.basics.specs.Lists.{some_of};
+ghost use Rattle.basics.specs.Lists.{every_of};
 ghost use Rattle.machine.specs.Rebuild.{old_somewhere, recent_ids, at_position, same_ids, all_data, besides, largest, resumed, picked_set, needed_size};
 ghost use Rattle.entries.specs.Entries.{entry_limit, is_recent, is_in};
 ghost use Rattle.entries.specs.View.{entry_of, entries_of};
@@ -40,23 +40,18 @@ impl RecentIds {
             position: 0,
             number: WriteNumber(0),
         };
-        let items = [id; Entries::LIMIT];
         RecentIds {
-            items: items,
+            items: [id; Entries::LIMIT],
             count: 0,
         }
     }
 
-    // The list with one id more, if it is kept.
-    fn offered(mut self, id: WriteId, kept: bool) -> Self
+    fn push(mut self, id: WriteId) -> Self
         requires { self.count < entry_limit }
-        ensures { recent_of result ≡ recent_of self ++ cond kept (id ∷ []) [] }
+        ensures { recent_of result ≡ recent_of self ++ (id ∷ []) }
     {
-        if kept {
-            let n = self.count;
-            self.items[n] = id;
-            self.count = n + 1;
-        }
+        self.items[self.count] = id;
+        self.count += 1;
         self
     }
 
@@ -64,33 +59,15 @@ impl RecentIds {
         requires { self.count ≤ entry_limit }
         ensures { result ≡ is_in id (recent_of self) }
     {
-        let n = self.count;
-        let mut i = 0;
-        while i < n {
-            let other = self.items[i];
-            if other.same(id) {
-                return true;
-            }
-            i += 1;
-        }
-        false
+        self.items[..self.count].iter().any(|other| other.same(id))
     }
 
-    // Whether some id is not among the others.
-    fn any_besides(self, others: RecentIds) -> bool
+    // Whether each id is among the others.
+    fn is_among(self, others: RecentIds) -> bool
         requires { (self.count ≤ entry_limit) × (others.count ≤ entry_limit) }
-        ensures { result ≡ some_of (λ x. not (is_in x (recent_of others))) (recent_of self) }
+        ensures { result ≡ every_of (λ x. is_in x (recent_of others)) (recent_of self) }
     {
-        let n = self.count;
-        let mut i = 0;
-        while i < n {
-            let id = self.items[i];
-            if !others.has(id) {
-                return true;
-            }
-            i += 1;
-        }
-        false
+        self.items[..self.count].iter().all(|id| others.has(*id))
     }
 
     // Whether both lists have the same ids.
@@ -98,20 +75,18 @@ impl RecentIds {
         requires { (self.count ≤ entry_limit) × (others.count ≤ entry_limit) }
         ensures { result ≡ same_ids (recent_of self) (recent_of others) }
     {
-        !self.any_besides(others) && !others.any_besides(self)
+        self.is_among(others) && others.is_among(self)
     }
 
     fn at_position(self, i: usize) -> Self
         requires { self.count ≤ entry_limit }
         ensures { recent_of result ≡ at_position i (recent_of self) }
     {
-        let n = self.count;
         let mut out = RecentIds::none();
-        let mut p = 0;
-        while p < n {
-            let id = self.items[p];
-            out = out.offered(id, id.position as usize == i);
-            p += 1;
+        for id in &self.items[..self.count] {
+            if id.position as usize == i {
+                out = out.push(*id);
+            }
         }
         out
     }
@@ -133,8 +108,7 @@ fn is_beside(node: NodeRecord, own: RecentIds, theirs: RecentIds, k: usize, j: u
     requires { (own.count ≤ entry_limit) × (theirs.count ≤ entry_limit) }
     ensures { result ≡ (is_norm node.opmode && fits_beside k j (recent_of own) (recent_of theirs)) }
 {
-    let opmode = node.opmode;
-    opmode.is_norm() && fits(own, theirs, k, j)
+    node.opmode.is_norm() && fits(own, theirs, k, j)
 }
 
 impl Nodes {
@@ -159,13 +133,11 @@ impl Nodes {
         requires { (n ≤ node_limit) × (Counted n self × (entries.count ≤ entry_limit)) }
         ensures { recent_of result ≡ recent_ids (nodes_of n self) (entries_of entries) }
     {
-        let count = entries.count;
         let mut out = RecentIds::none();
-        let mut i = 0;
-        while i < count {
-            let e = entries.items[i];
-            out = out.offered(e.id(), self.counts(n, e));
-            i += 1;
+        for e in &entries.items[..entries.count] {
+            if self.counts(n, *e) {
+                out = out.push(e.id());
+            }
         }
         out
     }
@@ -175,13 +147,9 @@ impl Nodes {
         requires { (n ≤ node_limit) × Counted n self }
         ensures { Knows n self result }
     {
-        let none = RecentIds::none();
-        let mut items = [none; Sizes::NODES];
-        let mut i = 0;
-        while i < n {
-            let node = self.items[i];
-            items[i] = self.recent_ids(n, node.entries);
-            i += 1;
+        let mut items = [RecentIds::none(); Sizes::NODES];
+        for i in 0..n {
+            items[i] = self.recent_ids(n, self.items[i].entries);
         }
         Recents { items }
     }
@@ -191,14 +159,9 @@ impl Nodes {
         requires { (z.k ≤ z.n) × (z.n ≤ node_limit) }
         ensures { node_set_of result ≡ all_data z (nodes_of z.n self) }
     {
-        let k = z.k;
         let mut set = NodeSet::none();
-        let mut i = 0;
-        while i < k {
-            let node = self.items[i];
-            let opmode = node.opmode;
-            set = set.put(i + 1, opmode.is_norm());
-            i += 1;
+        for i in 0..z.k {
+            set = set.put(i + 1, self.items[i].opmode.is_norm());
         }
         set
     }
@@ -208,16 +171,11 @@ impl Nodes {
         requires { (1 ≤ r) × ((r ≤ z.n) × Knows z.n self recents) }
         ensures { node_set_of result ≡ besides z (nodes_of z.n self) r }
     {
-        let k = z.k;
-        let n = z.n;
         let theirs = recents.items[r - 1];
         let mut set = NodeSet::none();
-        let mut i = 0;
-        while i < n {
-            let node = self.items[i];
-            let own = recents.items[i];
-            set = set.put(i + 1, is_beside(node, own, theirs, k, i + 1));
-            i += 1;
+        for i in 0..z.n {
+            let beside = is_beside(self.items[i], recents.items[i], theirs, z.k, i + 1);
+            set = set.put(i + 1, beside);
         }
         set
     }
@@ -227,9 +185,7 @@ impl Nodes {
         requires { (n ≤ node_limit) × ((1 ≤ j) × (j ≤ n)) }
         ensures { result ≡ is_resumed (nodes_of n self) j }
     {
-        let node = self.get(j);
-        let opmode = node.opmode;
-        match opmode {
+        match self.get(j).opmode {
             Opmode::Norm => self.items[..n].iter().any(|node| node.rset.contains(j)),
             Opmode::Recons => true,
             Opmode::Init => false,
@@ -242,10 +198,8 @@ impl Nodes {
         ensures { node_set_of result ≡ resumed (nodes_of n self) }
     {
         let mut set = NodeSet::none();
-        let mut i = 0;
-        while i < n {
+        for i in 0..n {
             set = set.put(i + 1, self.is_resumed(n, i + 1));
-            i += 1;
         }
         set
     }
@@ -255,15 +209,15 @@ impl Nodes {
         requires { (1 ≤ r) × ((r ≤ z.n) × Knows z.n self recents) }
         ensures { node_set_of result ≡ larger z (nodes_of z.n self) r (node_set_of best) }
     {
-        let node = self.get(r);
-        let opmode = node.opmode;
-        if opmode.is_norm() {
-            let other = self.besides(recents, z, r);
-            if best.size() < other.size() {
-                return other;
-            }
+        if !self.get(r).opmode.is_norm() {
+            return best;
         }
-        best
+        let other = self.besides(recents, z, r);
+        if best.size() < other.size() {
+            other
+        } else {
+            best
+        }
     }
 
     // The largest consistent set; on a tie the all-data set, then the one with the lowest redundant member.
@@ -271,12 +225,9 @@ impl Nodes {
         requires { (z.k ≤ z.n) × Knows z.n self recents }
         ensures { node_set_of result ≡ largest z (nodes_of z.n self) (z.n - z.k) }
     {
-        let redundant = z.n - z.k;
         let mut best = self.all_data(z);
-        let mut d = 0;
-        while d < redundant {
-            d += 1;
-            best = self.larger(recents, z, z.k + d, best);
+        for i in z.k..z.n {
+            best = self.larger(recents, z, i + 1, best);
         }
         best
     }
@@ -286,10 +237,10 @@ impl Nodes {
         ensures { node_set_of result ≡ picked_set z (nodes_of z.n self) }
     {
         if self.some_recons(z.n) {
-            return self.resumed(z.n);
+            self.resumed(z.n)
+        } else {
+            self.largest(self.recents(z.n), z)
         }
-        let recents = self.recents(z.n);
-        self.largest(recents, z)
     }
 
     pub fn needed_size(self, z: Sizes) -> usize
@@ -297,13 +248,9 @@ impl Nodes {
         ensures { result ≡ needed_size z (nodes_of z.n self) }
     {
         if self.some_recons(z.n) {
-            return z.k;
-        }
-        let init = self.count_init(z.n);
-        if init < z.failures {
-            z.k + (z.failures - init)
-        } else {
             z.k
+        } else {
+            z.k + z.failures.saturating_sub(self.count_init(z.n))
         }
     }
 }

@@ -13,12 +13,12 @@ use Rattle.stripe.proofs.nodes.Nodes.besides.Goals as goal
 pub loop-i-init : goal.loop-i-init
 loop-i-init c = mark-start c.none-set.ensures
 
-pub is_beside-requires : goal.is_beside-requires
-is_beside-requires c = let few = known-few c.requires.1.1 in
+pub is_beside-beside-requires : goal.is_beside-beside-requires
+is_beside-beside-requires c = let few = known-few c.requires.1.1 in
     (few c.loop-i.i (omega arith), few (c.args.r - 1) (omega arith))
 
 pub loop-i-preserved : goal.loop-i-preserved
-loop-i-preserved c = mark_on c.loop-i.invariant (omega arith) c.put-set.ensures c.is_beside.ensures
+loop-i-preserved c = mark_on c.loop-i.invariant (omega arith) c.put-set.ensures c.is_beside-beside.ensures
 
 pub returns : goal.returns
 returns c = let n = c.args.z.n in

@@ -1,6 +1,6 @@
 -- set has those of nodes 1 to i that fit beside the redundant member. Assumes nothing.
 use mathlib.Core.Bool.{◌&&◌}
-use Prim.Native.Nat.{◌+◌, ◌-◌}
+use Prim.Native.Nat.{◌+◌}
 use Rattle.code.specs.View.{node_set_of}
 use Rattle.records.specs.Node.{is_norm}
 use Rattle.stripe.specs.Sets.{fits_beside, ids_at}
@@ -10,8 +10,5 @@ use Rattle.stripe.proofs.nodes.Nodes.besides.Given as goal
 
 abbrev pub invariant-loop-i : goal.invariant-loop-i
 invariant-loop-i l = Marked
-    (λ p. is_norm (record_at l.self p).opmode && fits_beside l.k (p + 1) (recent_of (ids_at l.recents p)) (recent_of l.theirs))
-    (node_set_of l.set) l.i l.n
-
-abbrev pub decreases-loop-i : goal.decreases-loop-i
-decreases-loop-i l = l.n - l.i
+    (λ p. is_norm (record_at l.self p).opmode && fits_beside l.z.k (p + 1) (recent_of (ids_at l.recents p)) (recent_of l.theirs))
+    (node_set_of l.set) l.i l.z.n

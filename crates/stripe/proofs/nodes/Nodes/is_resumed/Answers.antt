@@ -9,13 +9,13 @@ use Rattle.stripe.proofs.nodes.Nodes.is_resumed.Goals as goal
 
 pub returns-in-Norm : goal.returns-in-Norm
 returns-in-Norm c = let a = c.args in
-    rw (← c.get-node.ensures a.n (omega arith), c.in-Norm.is)
+    rw (← c.get.ensures a.n (omega arith), c.in-Norm.is)
     (any_from_yields_List (λ r. has (node_set_of r.rset) a.j) _ _ _ c.any.ensures.ran (YieldsList-from_slice (take a.n a.self.items) cc)
     (λ x b q k. search (rules, tests))
     ∙ some-node (λ y. has y.rset a.j) a.n a.self (omega (arith, eighteen a.self _ c.well_formed.0)))
 
 pub returns-in-Recons : goal.returns-in-Recons
-returns-in-Recons c = rw (← c.get-node.ensures c.args.n (omega arith), c.in-Recons.is)
+returns-in-Recons c = rw (← c.get.ensures c.args.n (omega arith), c.in-Recons.is)
 
 pub returns-in-Init : goal.returns-in-Init
-returns-in-Init c = rw (← c.get-node.ensures c.args.n (omega arith), c.in-Init.is)
+returns-in-Init c = rw (← c.get.ensures c.args.n (omega arith), c.in-Init.is)

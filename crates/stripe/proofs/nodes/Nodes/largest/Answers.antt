@@ -1,17 +1,19 @@
--- best is the largest set with at most the first d redundant nodes. Assumes nothing.
-use native.Mathlib.Numerals.{add-one}
-use native.Mathlib.Omega.{arith}
+-- best is the largest set with the redundant nodes so far. Assumes nothing.
+use Rattle.std.proofs.Common.{◌≡◌, ◌+◌, ◌-◌, suc, arith}
 use Rattle.machine.specs.Rebuild.{largest}
-use Rattle.stripe.proofs.Loops.{reach-start, reach-on, reach-end}
 use Rattle.stripe.proofs.nodes.Nodes.largest.Goals as goal
 
-pub loop-d-init : goal.loop-d-init
+pub loop-i-init : goal.loop-i-init
 unfolding largest
-loop-d-init c = reach-start c.all_data-best.ensures
+loop-i-init c = let e : c.args.z.k - c.args.z.k ≡ 0 = omega arith in rw e c.all_data-best.ensures
 
-pub loop-d-preserved : goal.loop-d-preserved
+pub loop-i-preserved : goal.loop-i-preserved
 unfolding largest
-loop-d-preserved c = reach-on c.loop-d.invariant (omega arith) (rw (add-one c.loop-d.d, largest, ← c.loop-d.invariant.is) (rw (add-one c.loop-d.d) at c.larger-best.ensures))
+loop-i-preserved c = let k = c.args.z.k in
+    let i = c.loop-i.i in
+    let e : (i + 1) - k ≡ suc (i - k) = omega arith in
+    let r : k + suc (i - k) ≡ i + 1 = omega arith in
+    rw (e, largest, r, ← c.loop-i.invariant) c.larger-best.ensures
 
 pub returns : goal.returns
-returns c = reach-end c.loop-d.invariant (omega arith)
+returns c = let e : c.loop-i.i ≡ c.args.z.n = omega arith in rw e at c.loop-i.invariant

@@ -1,5 +1,5 @@
 -- Items 0 to i are the recent ids of nodes 1 to i. Assumes nothing.
-use Prim.Native.Nat.{suc, ◌-◌}
+use Prim.Native.Nat.{suc}
 use Rattle.machine.specs.Rebuild.{f}
 use Rattle.stripe.specs.Sets.{blank_ids}
 use Rattle.stripe.specs.View.{nodes_of, recent_of}
@@ -8,6 +8,3 @@ use Rattle.stripe.proofs.nodes.Nodes.recents.Given as goal
 
 abbrev pub invariant-loop-i : goal.invariant-loop-i
 invariant-loop-i l = Stored recent_of blank_ids (λ p. f (nodes_of l.n l.self) (suc p)) l.initial.items l.items 0 l.i l.n
-
-abbrev pub decreases-loop-i : goal.decreases-loop-i
-decreases-loop-i l = l.n - l.i

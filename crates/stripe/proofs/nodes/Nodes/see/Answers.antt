@@ -1,13 +1,13 @@
 -- What is seen of the records so far. Assumes nothing.
-use Rattle.std.proofs.Common.{◌≡◌, ◌≤◌, sym, ap, arith, get_or, map, take, ◌∙◌}
-use Rattle.std.proofs.lemmas.List.{take_all}
+use Rattle.std.proofs.Common.{sym, ap, arith, get_or, map, take, ◌∙◌}
+use Rattle.std.proofs.lemmas.List.{map_more, take_all}
 use Rattle.basics.proofs.Tests.{clash}
 use borrow.Author.Tests.{not-true, not-false}
 use Rattle.records.proofs.Limits.{nodes-few}
 use Rattle.records.specs.View.{node_of}
 use Rattle.stripe.specs.Seen.{seen_with}
 use Rattle.stripe.specs.View.{blank_record, nodes_of}
-use Rattle.stripe.proofs.NodeLists.{eighteen, one-more, nodes-map, nodes-count}
+use Rattle.stripe.proofs.NodeLists.{eighteen, nodes-map, nodes-count}
 use Rattle.stripe.proofs.Seeing.{seen_of, seen_none_lem, seen_last, sees-all}
 use Rattle.stripe.proofs.nodes.Nodes.see.Goals as goal
 
@@ -28,7 +28,7 @@ loop-node-preserved c = let a = c.args in
     c.with-seen.ensures
     ∙ ap (seen_with a.z a.c x) c.loop-node.invariant
     ∙ seen_last a.z a.c (map node_of (take i l)) x
-    ∙ sym (ap (seen_of a.z a.c) (one-more l i (omega arith)))
+    ∙ sym (ap (seen_of a.z a.c) (map_more node_of l i blank_record (omega arith)))
 
 pub returns : goal.returns
 returns c within = let a = c.args in

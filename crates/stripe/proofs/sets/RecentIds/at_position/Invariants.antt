@@ -1,13 +1,8 @@
--- out has the ids of the position among the first p. Assumes nothing.
-use Prim.Native.Nat.{◌-◌}
-use lib.ListN.{get_or}
+-- out has the ids of the position so far. Assumes nothing.
+use Rattle.std.proofs.Common.{◌≡◌, take}
 use Rattle.machine.specs.Rebuild.{at_position}
-use Rattle.entries.specs.View.{blank_id}
-use Rattle.stripe.proofs.IdLists.{Kept}
+use Rattle.stripe.specs.View.{recent_of}
 use Rattle.stripe.proofs.sets.RecentIds.at_position.Given as goal
 
-abbrev pub invariant-loop-p : goal.invariant-loop-p
-invariant-loop-p l = Kept (at_position l.i) (λ q. get_or l.self.items q blank_id) l.out l.p l.n
-
-abbrev pub decreases-loop-p : goal.decreases-loop-p
-decreases-loop-p l = l.n - l.p
+abbrev pub invariant-loop-id : goal.invariant-loop-id
+invariant-loop-id l = recent_of l.out ≡ at_position l.i (take l.id-index l.id-items)

@@ -1,17 +1,14 @@
--- A search: none of the first i ids is the id. Assumes nothing.
-use native.Mathlib.Omega.{arith}
-use Rattle.entries.proofs.Lists.{search-start, search-on, search-hit, search-end}
-use Rattle.stripe.proofs.IdLists.{ids-search}
+-- Some of the first count ids. Assumes nothing.
+use Rattle.std.proofs.Common.{take, arith, rules, tests, length, ◌≡◌, ◌∙◌}
+use Rattle.std.proofs.lemmas.Iterator.{YieldsList-from_slice}
+use Rattle.std.proofs.lemmas.Iterator.Search.{any_from_yields_List}
+use Rattle.entries.specs.Entries.{same_id}
+use Rattle.stripe.proofs.IdLists.{is_in-ids}
 use Rattle.stripe.proofs.sets.RecentIds.has.Goals as goal
 
-pub loop-i-init : goal.loop-i-init
-loop-i-init c = search-start (ids-search c.args.id)
-
-pub returns-then-same : goal.returns-then-same
-returns-then-same c = search-hit (ids-search c.args.id) c.loop-i.invariant (omega arith) c.same.ensures c.if-same.true
-
-pub loop-i-preserved : goal.loop-i-preserved
-loop-i-preserved c = search-on (ids-search c.args.id) c.loop-i.invariant (omega arith) c.same.ensures c.if-same.false
-
 pub returns : goal.returns
-returns c = search-end c.loop-i.invariant (omega arith)
+returns c = let a = c.args in
+    let room : length a.self.items ≡ 16 = search rules in
+    any_from_yields_List (λ x. same_id x a.id) _ _ _ c.any.ensures.ran (YieldsList-from_slice (take a.self.count a.self.items) cc)
+    (λ x b q k. search (rules, tests))
+    ∙ is_in-ids a.id a.self (omega (arith, room))
