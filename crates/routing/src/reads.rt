@@ -6,7 +6,8 @@ ghost use Rattle.routing.specs.Walks.{read_after_of, read_begun_of, read_fits, r
 use crate::{ReadRequest, ReadWalk, SizedRead};
 use calls::{Answer, shown_part};
 use records::{Refusal, Sizes};
-use tables::{part_from, part_to, stripe_part, table_blocks};
+use std::ops::Range;
+use tables::{part, stripe_part, table_blocks};
 
 impl ReadRequest {
     pub fn sized(self, blocks: usize, spare: usize) -> SizedRead
@@ -82,32 +83,18 @@ impl SizedRead {
 }
 
 impl ReadWalk {
-    pub fn nodes_from(self, len: usize) -> usize
-        ensures { result ≡ part_from self.at self.volume.z.n len }
+    pub fn nodes_part(self, len: usize) -> Range<usize>
+        ensures start { result.start ≡ part_from self.at self.volume.z.n len }
+        ensures end { result.end ≡ part_to self.at self.volume.z.n len }
     {
-        let volume = self.volume;
-        part_from(self.at, volume.z.n, len)
+        part(self.at, self.volume.z.n, len)
     }
 
-    pub fn nodes_to(self, len: usize) -> usize
-        ensures { result ≡ part_to self.at self.volume.z.n len }
+    pub fn clients_part(self, len: usize) -> Range<usize>
+        ensures start { result.start ≡ part_from self.at self.volume.z.m len }
+        ensures end { result.end ≡ part_to self.at self.volume.z.m len }
     {
-        let volume = self.volume;
-        part_to(self.at, volume.z.n, len)
-    }
-
-    pub fn clients_from(self, len: usize) -> usize
-        ensures { result ≡ part_from self.at self.volume.z.m len }
-    {
-        let volume = self.volume;
-        part_from(self.at, volume.z.m, len)
-    }
-
-    pub fn clients_to(self, len: usize) -> usize
-        ensures { result ≡ part_to self.at self.volume.z.m len }
-    {
-        let volume = self.volume;
-        part_to(self.at, volume.z.m, len)
+        part(self.at, self.volume.z.m, len)
     }
 
     // What shelf is asked, on the stripe's own tables; a read that goes to no stripe has sizes that every read is refused with.

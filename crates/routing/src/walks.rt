@@ -2,57 +2,21 @@
 ghost use Rattle.std.specs.Prelude.{◌≡◌};
 ghost use Rattle.tables.specs.Parts.{part_from, part_to, table_blocks, table_differences};
 ghost use Rattle.volume.specs.Volume.{is_stop};
-ghost use Rattle.routing.specs.Walks.{after_of, begun_of, client_end, clients_begun, goes_on, is_failure_call, is_failure_step, is_of_each_call, is_one_step};
-ghost use Rattle.routing.specs.Walks.{is_stop_call, is_stop_step, looks_of, node_end, nodes_begun, picks_of, pick_request_of, refused_walk, seen_client, seen_node, step_in};
+ghost use Rattle.routing.specs.Walks.{after_of, begun_of, client_end, clients_begun, goes_on, is_failure_call, is_of_each_call, is_one_step};
+ghost use Rattle.routing.specs.Walks.{is_stop_call, looks_of, node_end, nodes_begun, picks_of, pick_request_of, refused_walk, seen_client, seen_node, step_in};
 ghost use Rattle.routing.specs.Walks.{step_for, step_request_of, stopping_of, value_fits, value_fits_step, value_from, value_to, walk_fits};
 
 use crate::{Request, VolumeCall, Walk};
 use calls::{Answer, StepCall};
 use limits::at_node::is_client_within;
 use records::{ClientCall, ClientRecord, NodeRecord, Refusal};
-use tables::{part_from, part_to, table_blocks, table_differences};
+use std::ops::Range;
+use tables::{part, table_blocks, table_differences};
 
 fn is_stop_by(op: ClientCall) -> bool
     ensures { result ≡ is_stop op }
 {
-    match op {
-        ClientCall::Drop => false,
-        ClientCall::Sweep => false,
-        ClientCall::Stop => true,
-        ClientCall::Lock => false,
-        ClientCall::Weaken => false,
-        ClientCall::Tighten => false,
-        ClientCall::Write => false,
-        ClientCall::Settle => false,
-        ClientCall::Unlock => false,
-        ClientCall::Quit => false,
-    }
-}
-
-fn is_stop_step(call: StepCall) -> bool
-    ensures { result ≡ is_stop_step call }
-{
-    match call {
-        StepCall::Swap(_, _) => false,
-        StepCall::Fail(_) => false,
-        StepCall::Due(_) => false,
-        StepCall::Tick => false,
-        StepCall::At(_, _, _) => false,
-        StepCall::By(op, _) => is_stop_by(op),
-    }
-}
-
-fn is_failure_step(call: StepCall) -> bool
-    ensures { result ≡ is_failure_step call }
-{
-    match call {
-        StepCall::Swap(_, _) => false,
-        StepCall::Fail(_) => true,
-        StepCall::Due(_) => false,
-        StepCall::Tick => false,
-        StepCall::At(_, _, _) => false,
-        StepCall::By(_, _) => false,
-    }
+    matches!(op, ClientCall::Stop)
 }
 
 fn value_fits_step(call: StepCall, block: usize, card: usize, len: usize) -> bool
@@ -61,10 +25,7 @@ fn value_fits_step(call: StepCall, block: usize, card: usize, len: usize) -> boo
     match call {
         StepCall::Swap(_, _) => len == block,
         StepCall::Fail(_) => len == card,
-        StepCall::Due(_) => true,
-        StepCall::Tick => true,
-        StepCall::At(_, _, _) => true,
-        StepCall::By(_, _) => true,
+        _ => true,
     }
 }
 
@@ -73,12 +34,8 @@ fn step_for(call: StepCall, n: usize, s: usize) -> StepCall
     ensures { result ≡ step_for call n s }
 {
     match call {
-        StepCall::Swap(c, i) => StepCall::Swap(c, i),
         StepCall::Fail(card) => StepCall::Fail(layout::node_on(n, s, card)),
-        StepCall::Due(j) => StepCall::Due(j),
-        StepCall::Tick => StepCall::Tick,
-        StepCall::At(op, c, j) => StepCall::At(op, c, j),
-        StepCall::By(op, c) => StepCall::By(op, c),
+        _ => call,
     }
 }
 
@@ -87,18 +44,15 @@ impl VolumeCall {
         ensures { result ≡ is_stop_call self }
     {
         match self {
-            VolumeCall::Pick(_) => false,
-            VolumeCall::Step(call) => is_stop_step(call),
+            VolumeCall::Step(StepCall::By(op, _)) => is_stop_by(op),
+            _ => false,
         }
     }
 
     fn is_failure(self) -> bool
         ensures { result ≡ is_failure_call self }
     {
-        match self {
-            VolumeCall::Pick(_) => false,
-            VolumeCall::Step(call) => is_failure_step(call),
-        }
+        matches!(self, VolumeCall::Step(StepCall::Fail(_)))
     }
 
     // Whether it is a call on every stripe.
@@ -343,11 +297,7 @@ impl Walk {
     pub fn picks(self) -> bool
         ensures { result ≡ picks_of self }
     {
-        let call = self.call;
-        match call {
-            VolumeCall::Pick(_) => true,
-            VolumeCall::Step(_) => false,
-        }
+        matches!(self.call, VolumeCall::Pick(_))
     }
 
     // Whether it is a step on one stripe alone.
@@ -400,84 +350,45 @@ impl Walk {
 
     // ---- the stripe's part of each table
 
-    pub fn nodes_from(self, len: usize) -> usize
-        ensures { result ≡ part_from self.at self.volume.z.n len }
+    // ---- the parts of the tables that are the stripe's own
+
+    pub fn nodes_part(self, len: usize) -> Range<usize>
+        ensures start { result.start ≡ part_from self.at self.volume.z.n len }
+        ensures end { result.end ≡ part_to self.at self.volume.z.n len }
     {
-        let volume = self.volume;
-        part_from(self.at, volume.z.n, len)
+        part(self.at, self.volume.z.n, len)
     }
 
-    pub fn nodes_to(self, len: usize) -> usize
-        ensures { result ≡ part_to self.at self.volume.z.n len }
+    pub fn clients_part(self, len: usize) -> Range<usize>
+        ensures start { result.start ≡ part_from self.at self.volume.z.m len }
+        ensures end { result.end ≡ part_to self.at self.volume.z.m len }
     {
-        let volume = self.volume;
-        part_to(self.at, volume.z.n, len)
+        part(self.at, self.volume.z.m, len)
     }
 
-    pub fn clients_from(self, len: usize) -> usize
-        ensures { result ≡ part_from self.at self.volume.z.m len }
+    pub fn blocks_part(self, len: usize) -> Range<usize>
+        ensures start { result.start ≡ part_from self.at (table_blocks self.volume.z) len }
+        ensures end { result.end ≡ part_to self.at (table_blocks self.volume.z) len }
     {
-        let volume = self.volume;
-        part_from(self.at, volume.z.m, len)
+        part(self.at, table_blocks(self.volume.z), len)
     }
 
-    pub fn clients_to(self, len: usize) -> usize
-        ensures { result ≡ part_to self.at self.volume.z.m len }
+    pub fn differences_part(self, len: usize) -> Range<usize>
+        ensures start { result.start ≡ part_from self.at (table_differences self.volume.z) len }
+        ensures end { result.end ≡ part_to self.at (table_differences self.volume.z) len }
     {
-        let volume = self.volume;
-        part_to(self.at, volume.z.m, len)
-    }
-
-    pub fn blocks_from(self, len: usize) -> usize
-        ensures { result ≡ part_from self.at (table_blocks self.volume.z) len }
-    {
-        let volume = self.volume;
-        part_from(self.at, table_blocks(volume.z), len)
-    }
-
-    pub fn blocks_to(self, len: usize) -> usize
-        ensures { result ≡ part_to self.at (table_blocks self.volume.z) len }
-    {
-        let volume = self.volume;
-        part_to(self.at, table_blocks(volume.z), len)
-    }
-
-    pub fn differences_from(self, len: usize) -> usize
-        ensures { result ≡ part_from self.at (table_differences self.volume.z) len }
-    {
-        let volume = self.volume;
-        part_from(self.at, table_differences(volume.z), len)
-    }
-
-    pub fn differences_to(self, len: usize) -> usize
-        ensures { result ≡ part_to self.at (table_differences self.volume.z) len }
-    {
-        let volume = self.volume;
-        part_to(self.at, table_differences(volume.z), len)
+        part(self.at, table_differences(self.volume.z), len)
     }
 
     // A card's failure has bytes for each stripe, in stripe order.
-    pub fn value_from(self, len: usize) -> usize
-        ensures { result ≡ value_from self len }
+    pub fn value_part(self, len: usize) -> Range<usize>
+        ensures start { result.start ≡ value_from self len }
+        ensures end { result.end ≡ value_to self len }
     {
-        let volume = self.volume;
-        let call = self.call;
-        if call.is_failure() {
-            part_from(self.at, volume.z.b, len)
+        if self.call.is_failure() {
+            part(self.at, self.volume.z.b, len)
         } else {
-            0
-        }
-    }
-
-    pub fn value_to(self, len: usize) -> usize
-        ensures { result ≡ value_to self len }
-    {
-        let volume = self.volume;
-        let call = self.call;
-        if call.is_failure() {
-            part_to(self.at, volume.z.b, len)
-        } else {
-            len
+            0..len
         }
     }
 }

@@ -1,11 +1,11 @@
-// A volume's tables: its limits, the lengths of its tables, the part of each that is a stripe's own, and fresh ones. All by value; the calls on the tables
-// are in crate volumeshelf.
+// A volume's tables: its limits, the lengths of its tables, the part of each that is a stripe's own, and fresh ones. The calls on the tables are in crate
+// volumeshelf.
 #![tactic(auto)]
 
 mod volumes; // volumes.rt: a volume's tables, and the parts of its stripes
 
 use records::Sizes;
-pub use volumes::{part_from, part_to, stripe_part, table_blocks, table_differences};
+pub use volumes::{part, stripe_part, table_blocks, table_differences};
 
 // So many stripes of these sizes.
 #[derive(Clone, Copy)]
@@ -22,10 +22,4 @@ pub struct Lengths {
     pub blocks: usize,
     pub differences: usize,
     pub value: usize,
-}
-
-// Whether the tables that are to be made fresh have their lengths.
-#[derive(Clone, Copy)]
-pub struct Renewal {
-    pub fits: bool,
 }

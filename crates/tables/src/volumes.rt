@@ -1,17 +1,15 @@
 // A volume's tables, and the parts of its stripes.
-ghost use Rattle.std.specs.Prelude.{◌≡◌, length};
+ghost use Rattle.std.specs.Prelude.{cond, ◌&&◌, ◌≡◌, ◌*◌, ◌≤◌, leb, length};
 ghost use Rattle.parts.specs.Inside.{part_in};
-ghost use Rattle.records.specs.Client.{fresh_client};
-ghost use Rattle.records.specs.Node.{fresh_node};
-ghost use Rattle.records.specs.View.{client_of, node_of};
+ghost use Rattle.records.specs.Sizes.{block_limit};
 ghost use Rattle.tables.specs.Parts.{part_from, part_of, part_to, table_blocks, table_differences, lengths_of, volume_within};
-ghost use Rattle.tables.specs.Renewals.{renewal_end, renewal_of, Zeroed};
+ghost use Rattle.tables.specs.Renewals.{fresh_fits, Renews};
 
-use crate::{Lengths, Renewal, Volume};
+use crate::{Lengths, Volume};
 use blocks::clear;
-use calls::Answer;
 use code::Limits;
 use records::{ClientRecord, NodeRecord, Refusal, Sizes};
+use std::ops::Range;
 
 // How many bytes a table of blocks of the largest stripe has.
 const PART_MOST: usize = Sizes::NODES * Limits::BLOCK_MOST;
@@ -19,75 +17,55 @@ const PART_MOST: usize = Sizes::NODES * Limits::BLOCK_MOST;
 // How many stripes a volume has at most.
 pub const STRIPES_MOST: usize = 1024;
 
-// Where the part of stripe s begins in a table of `len` with `each` elements for a stripe, and where it ends; an empty part if it is not all there.
-pub fn part_from(s: usize, each: usize, len: usize) -> usize
-    ensures { result ≡ part_from s each len }
+// The part of stripe s in a table of `len` with `each` elements for a stripe; an empty one if it is not all there.
+pub fn part(s: usize, each: usize, len: usize) -> Range<usize>
+    ensures start { result.start ≡ part_from s each len }
+    ensures end { result.end ≡ part_to s each len }
 {
-    if PART_MOST < each {
-        return 0;
-    }
-    if STRIPES_MOST <= s {
-        return 0;
+    if PART_MOST < each || STRIPES_MOST <= s {
+        return 0..0;
     }
     let first = s * each;
-    if first + each <= len { first } else { 0 }
+    let end = first + each;
+    if end <= len { first..end } else { 0..0 }
 }
 
-pub fn part_to(s: usize, each: usize, len: usize) -> usize
-    ensures { result ≡ part_to s each len }
-{
-    if PART_MOST < each {
-        return 0;
-    }
-    if STRIPES_MOST <= s {
-        return 0;
-    }
-    let first = s * each;
-    if first + each <= len { first + each } else { 0 }
-}
-
-// The part of stripe s of a table with so many bytes for each; an empty one if it is not all there.
-pub fn stripe_part(table: &[u8], s: usize, each: usize) -> &[u8]
+// The part of stripe s of a table with so many elements for each; an empty one if it is not all there.
+pub fn stripe_part<T>(table: &[T], s: usize, each: usize) -> &[T]
     ensures { result.now ≡ part_in (part_of s each (length table.now)) table.now }
 {
-    let len = table.len();
-    let from = part_from(s, each, len);
-    let to = part_to(s, each, len);
-    &table[from..to]
+    let own = part(s, each, table.len());
+    &table[own.start..own.end]
+}
+
+// The bytes of so many blocks; 0 if they are more than `most`, or the blocks too large.
+fn bytes_of(count: usize, most: usize, b: usize) -> usize
+    requires { most ≤ 18 }
+    ensures { result ≡ cond (leb count most && leb b block_limit) (count * b) 0 }
+{
+    if count <= most && b <= Limits::BLOCK_MOST { count * b } else { 0 }
 }
 
 // The bytes of a stripe's blocks, and of its clients' differences; 0 if the sizes are too large for a stripe.
 pub fn table_blocks(z: Sizes) -> usize
     ensures { result ≡ table_blocks z }
 {
-    if Sizes::NODES < z.n {
-        return 0;
-    }
-    if Limits::BLOCK_MOST < z.b {
-        return 0;
-    }
-    z.n * z.b
+    bytes_of(z.n, Sizes::NODES, z.b)
 }
 
 pub fn table_differences(z: Sizes) -> usize
     ensures { result ≡ table_differences z }
 {
-    if Sizes::CLIENTS < z.m {
-        return 0;
-    }
-    if Limits::BLOCK_MOST < z.b {
-        return 0;
-    }
-    z.m * z.b
+    bytes_of(z.m, Sizes::CLIENTS, z.b)
 }
 
 impl Volume {
     // Whether the number of stripes and the sizes are within the limits.
+    #[tactic(auto, unfolding(crate::specs::Parts::volume_within))]
     pub fn within(self) -> bool
         ensures { result ≡ volume_within self }
     {
-        let z = self.z;
-        1 <= self.stripes && (self.stripes <= STRIPES_MOST && z.within())
+        1 <= self.stripes && self.stripes <= STRIPES_MOST && self.z.within()
     }
 
     // The lengths of its tables, if it is within the limits.
@@ -113,49 +91,31 @@ impl Volume {
         }
     }
 
-    pub fn renewal(self, nodes: usize, clients: usize, blocks: usize) -> Renewal
-        ensures { result ≡ renewal_of self nodes clients blocks }
+    // Whether tables that are to be made fresh have its lengths.
+    fn fits_fresh(self, nodes: usize, clients: usize, blocks: usize) -> bool
+        ensures { result ≡ fresh_fits self nodes clients blocks }
     {
         let lengths = self.lengths();
-        let fits = self.within()
-            && (nodes == lengths.nodes && (clients == lengths.clients && blocks == lengths.blocks));
-        Renewal { fits: fits }
-    }
-}
-
-impl Renewal {
-    pub fn first(self) -> usize
-        ensures { result ≡ 0 }
-    {
-        0
+        self.within()
+            && (nodes == lengths.nodes
+                && (clients == lengths.clients && blocks == lengths.blocks))
     }
 
-    pub fn end_in(self, len: usize) -> usize
-        ensures { result ≡ renewal_end self len }
+    // Every record fresh, every block zero; or refused, with the tables as they were.
+    pub fn renew(
+        self,
+        nodes: &mut [NodeRecord],
+        clients: &mut [ClientRecord],
+        blocks: &mut [u8],
+    ) -> Result<(), Refusal>
+        ensures { Renews self nodes.old clients.old blocks.old result nodes.new clients.new blocks.new }
     {
-        if self.fits { len } else { 0 }
-    }
-
-    pub fn node(self, i: usize, old: NodeRecord) -> NodeRecord
-        ensures { node_of result ≡ fresh_node }
-    {
-        NodeRecord::fresh()
-    }
-
-    pub fn client(self, i: usize, old: ClientRecord) -> ClientRecord
-        ensures { client_of result ≡ fresh_client }
-    {
-        ClientRecord::fresh()
-    }
-
-    // The blocks become zero, if the tables have their lengths.
-    pub fn zero(self, blocks: &mut [u8]) -> Answer
-        ensures { Zeroed self blocks.old result blocks.new }
-    {
-        if !self.fits {
-            return Answer::Refused(Refusal::OutOfLimits);
+        if !self.fits_fresh(nodes.len(), clients.len(), blocks.len()) {
+            return Err(Refusal::OutOfLimits);
         }
+        nodes.fill(NodeRecord::fresh());
+        clients.fill(ClientRecord::fresh());
         clear(blocks);
-        Answer::Accepted
+        Ok(())
     }
 }

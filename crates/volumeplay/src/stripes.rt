@@ -6,7 +6,7 @@ use crate::Turn;
 use records::{ClientRecord, NodeRecord, Sizes};
 use step::Clients;
 use stripe::Nodes;
-use tables::{part_from, part_to};
+use tables::part;
 use volumescript::looking::Looked;
 
 // The records from `first` on and before `end` of a table are the first of these.
@@ -40,11 +40,14 @@ impl NodesTaken {
                 end: 0,
                 nodes: nodes,
             },
-            Looked::Stripe(s) => NodesTaken {
-                first: part_from(s, volume.z.n, len),
-                end: part_to(s, volume.z.n, len),
-                nodes: nodes,
-            },
+            Looked::Stripe(s) => {
+                let own = part(s, volume.z.n, len);
+                NodesTaken {
+                    first: own.start,
+                    end: own.end,
+                    nodes: nodes,
+                }
+            }
         }
     }
 
@@ -94,11 +97,14 @@ impl ClientsTaken {
                 end: 0,
                 clients: clients,
             },
-            Looked::Stripe(s) => ClientsTaken {
-                first: part_from(s, volume.z.m, len),
-                end: part_to(s, volume.z.m, len),
-                clients: clients,
-            },
+            Looked::Stripe(s) => {
+                let own = part(s, volume.z.m, len);
+                ClientsTaken {
+                    first: own.start,
+                    end: own.end,
+                    clients: clients,
+                }
+            }
         }
     }
 

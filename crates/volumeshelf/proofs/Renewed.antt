@@ -1,41 +1,60 @@
--- What the loops that make the tables fresh leave. Assumes nothing.
-use mathlib.Core.Bool.{Bool, true, false, cond}
+-- What is said of tables that are made fresh, said of the volume. Assumes nothing.
+use mathlib.Core.Bool.{Bool, true, false, cond, ◌&&◌}
 use mathlib.Core.List.{List, map}
-use mathlib.Core.Path.{◌≡◌, sym, ◌∙◌}
-use Prim.Native.Nat.{◌<◌}
-use native.Mathlib.Omega.{arith}
-use lib.ListN.{length, replicate, length-map, length-replicate, get_or-replicate, get_or-map}
-use lib.Seq.{ext_get_or}
-use Rattle.lent.specs.Ranges.{Changed}
+use mathlib.Core.Path.{◌≡◌, refl, ap, ◌∙◌, subst}
+use Prim.Native.Nat.{ℕ, ◌*◌}
+use lib.Dec.{eqb}
+use lib.ListN.{length, replicate}
+use borrow.Author.Tests.{eqb-true}
+use Rattle.std.specs.Prelude.{Err, Ok, Result}
+use Rattle.basics.proofs.Tests.{and_left, and_right}
+use Rattle.calls.specs.declared.Answer.{Answer}
+use Rattle.calls.specs.declared.Answer.TheVariants.{Accepted, Refused}
 use Rattle.records.specs.declared.ClientRecord.{ClientRecord}
 use Rattle.records.specs.declared.NodeRecord.{NodeRecord}
+use Rattle.records.specs.declared.Refusal.{Refusal}
+use Rattle.records.specs.declared.Refusal.TheVariants.{OutOfLimits}
 use Rattle.records.specs.Client.{fresh_client}
 use Rattle.records.specs.Node.{fresh_node}
 use Rattle.records.specs.View.{client_of, node_of}
-use Rattle.step.specs.View.{blank_client}
-use Rattle.stripe.specs.View.{blank_record}
-use Rattle.tables.specs.declared.Renewal.{Renewal}
-use Rattle.tables.specs.Renewals.{renewal_end}
-use Rattle.volumeshelf.specs.Entry.{ClientsRenewed, NodesRenewed}
+use Rattle.tables.specs.declared.Volume.{Volume}
+use Rattle.tables.specs.Parts.{volume_within}
+use Rattle.tables.specs.Renewals.{Renews, fresh_fits}
+use Rattle.volumeshelf.specs.Volumes.{FreshVolume, Renewed}
 
--- each record of the whole table, or none
-module _ {S B : Type 0} (of : S → B) (fresh : B) (d : S) (ys zs : List S) where
-  all-fresh : Changed (λ i old new. of new ≡ fresh) d 0 (length ys) ys zs → map of zs ≡ replicate (length ys) fresh
-  all-fresh c = ext_get_or (of d) (map of zs) (replicate (length ys) fresh) (length-map zs of ∙ c.len ∙ sym (length-replicate (length ys) fresh))
-      (λ i h. let within : i < length ys = omega (arith, h, length-map zs of, c.len) in
-      get_or-map of zs i d ∙ c.inside i (omega arith) within ∙ sym (get_or-replicate (length ys) i fresh (of d) within))
+abbrev pub answer : Result (Unit {0}) Refusal → Answer
+answer (Ok x) = Accepted
+answer (Err why) = Refused why
 
-  as_it_was : Changed (λ i old new. of new ≡ fresh) d 0 0 ys zs → zs ≡ ys
-  as_it_was c = ext_get_or d zs ys c.len (λ i h. c.after i (omega arith))
+module _ (nodes : List NodeRecord) (clients : List ClientRecord) (blocks : List ℕ) (v : Volume) (result : Result (Unit {0}) Refusal)
+    (nodes' : List NodeRecord) (clients' : List ClientRecord) (blocks' : List ℕ) (said : Renews v nodes clients blocks result nodes' clients' blocks') where
+  record Lengths : Type 0 where
+    nodes_len : length nodes ≡ v.stripes * v.z.n
+    clients_len : length clients ≡ v.stripes * v.z.m
+    blocks_len : length blocks ≡ v.stripes * (v.z.n * v.z.b)
 
-  renewed : (t : Bool) → Changed (λ i old new. of new ≡ fresh) d 0 (cond t (length ys) 0) ys zs → cond t (map of zs ≡ replicate (length ys) fresh) (zs ≡ ys)
-  renewed true c = all-fresh c
-  renewed false c = as_it_was c
+  lengths : fresh_fits v (length nodes) (length clients) (length blocks) ≡ true → Lengths
+  lengths e = search (and_left, and_right, eqb-true)
 
-pub nodes-renewed : (ys : List NodeRecord) (r : Renewal) (zs : List NodeRecord)
-    → Changed (λ i old new. node_of new ≡ fresh_node) blank_record 0 (renewal_end r (length ys)) ys zs → NodesRenewed ys r zs
-nodes-renewed ys r zs = renewed node_of fresh_node blank_record ys zs r.fits
+  fresh : FreshVolume nodes clients blocks v (answer result) nodes' clients' blocks'
+  fresh = by (fresh_fits v (length nodes) (length clients) (length blocks)) refl said
+    where
+      by : (t : Bool) → fresh_fits v (length nodes) (length clients) (length blocks) ≡ t
+          → cond t
+          ((result ≡ Ok tt) × ((map node_of nodes' ≡ replicate (length nodes) fresh_node)
+          × ((map client_of clients' ≡ replicate (length clients) fresh_client) × (blocks' ≡ replicate (length blocks) 0))))
+          ((result ≡ Err OutOfLimits) × ((nodes' ≡ nodes) × ((clients' ≡ clients) × (blocks' ≡ blocks))))
+          → cond t (Renewed v (answer result) nodes' clients' blocks')
+          ((answer result ≡ Refused OutOfLimits) × ((nodes' ≡ nodes) × ((clients' ≡ clients) × (blocks' ≡ blocks))))
+      by true e s =
+          let l = lengths e in
+          record {
+            accepted = ap answer s.0;
+            nodes_are = s.1.0 ∙ ap (λ k. replicate k fresh_node) l.nodes_len;
+            clients_are = s.1.1.0 ∙ ap (λ k. replicate k fresh_client) l.clients_len;
+            blocks_are = s.1.1.1 ∙ ap (λ k. replicate k 0) l.blocks_len;
+          }
+      by false e s = (ap answer s.0, s.1)
 
-pub clients-renewed : (ys : List ClientRecord) (r : Renewal) (zs : List ClientRecord)
-    → Changed (λ i old new. client_of new ≡ fresh_client) blank_client 0 (renewal_end r (length ys)) ys zs → ClientsRenewed ys r zs
-clients-renewed ys r zs = renewed client_of fresh_client blank_client ys zs r.fits
+  pub fresh-said : (r : Result (Unit {0}) Refusal) → result ≡ r → FreshVolume nodes clients blocks v (answer r) nodes' clients' blocks'
+  fresh-said r e = subst (λ (a : Answer). FreshVolume nodes clients blocks v a nodes' clients' blocks') (ap answer e) fresh

@@ -19,7 +19,7 @@ use Rattle.tables.specs.declared.Volume.{Volume}
 use Rattle.routing.specs.declared.VolumeCall.{VolumeCall}
 use Rattle.routing.specs.declared.Walk.{Walk}
 use Rattle.routing.specs.Walks.{after_of, begun_of, client_end, goes_on, is_failure_call, is_of_each_call, is_one_step, is_stop_call, looks_of, node_end, picks_of, walk_to}
-use Rattle.volumeshelf.specs.Entry.{ClientsLooked, Goes, NodesLooked, PicksPart, StepsPart}
+use Rattle.volumeshelf.specs.Entry.{ClientsLooked, Goes, NodesLooked, MakesPart}
 use Rattle.volumeshelf.specs.Volumes.{CallsVolume}
 use Rattle.volumeshelf.proofs.Called.{begun, begun-each, begun-one, begun-outside, begun-refused, called, fits}
 use Rattle.volumeshelf.proofs.Turn.{Lent}
@@ -72,10 +72,6 @@ not-true : (b : Bool) → not b ≡ true → b ≡ false
 not-true true e = clash e refl
 not-true false e = refl
 
-no-pick : (w : Walk) → is_one_step w ≡ true → picks_of w ≡ false
-no-pick w e =
-    not-true (picks_of w) (and_left (not (picks_of w)) (not (is_of_each_call w.call)) (and_right (goes_on w) (not (picks_of w) && not (is_of_each_call w.call)) e))
-
 of_one : (w : Walk) → is_one_step w ≡ true → is_of_each_call w.call ≡ false
 of_one w e =
     not-true (is_of_each_call w.call)
@@ -101,15 +97,13 @@ begins-at q value t₀ is = by (bool_cases (fits q value t₀)) (bool_cases (is_
 pub one : (nodes : List NodeRecord) (clients : List ClientRecord) (blocks spare differences value : List ℕ) (q : Request) (r : Answer)
     (nodes' : List NodeRecord) (clients' : List ClientRecord) (blocks' spare' differences' : List ℕ)
     → is_one_step (begun-as nodes clients blocks spare differences value q) ≡ true
-    → StepsPart nodes clients blocks spare differences value (begun-as nodes clients blocks spare differences value q) r
+    → MakesPart nodes clients blocks spare differences value (begun-as nodes clients blocks spare differences value q) r
     nodes' clients' blocks' spare' differences'
     → CallsVolume nodes clients blocks spare differences value q r nodes' clients' blocks' spare' differences'
 one nodes clients blocks spare differences value q r nodes' clients' blocks' spare' differences' is made =
     plain nodes clients blocks spare differences value q r nodes' clients' blocks' spare' differences' quiet (record {
       last = after_of w r;
-      turned = more none (goes w is) (subst (λ (b : Bool). cond b
-          (PicksPart nodes clients blocks spare differences value w r nodes' clients' blocks' spare' differences')
-          (StepsPart nodes clients blocks spare differences value w r nodes' clients' blocks' spare' differences')) (sym (no-pick w is)) made);
+      turned = more none (goes w is) made;
       ended = ap goes_on ends ∙ le-ltb (suc q.stripe) (suc q.stripe) (omega arith);
       answers = sym (ap (λ x. x.answer) ends);
     })
@@ -134,10 +128,10 @@ module _ (nodes : List NodeRecord) (clients : List ClientRecord) (blocks spare d
   abbrev Said : Type 0
   Said = CallsVolume nodes clients blocks spare differences value q r nodes' clients' blocks' spare' differences'
 
-  pub one-said : true ≡ is_one_step w → StepsPart nodes clients blocks spare differences value w r nodes' clients' blocks' spare' differences' → Said
+  pub one-said : true ≡ is_one_step w → MakesPart nodes clients blocks spare differences value w r nodes' clients' blocks' spare' differences' → Said
   one-said is made =
       one nodes clients blocks spare differences value q r nodes' clients' blocks' spare' differences' (sym (is ∙ ap is_one_step begun-is))
-      (subst (λ (k : Walk). StepsPart nodes clients blocks spare differences value k r nodes' clients' blocks' spare' differences') begun-is made)
+      (subst (λ (k : Walk). MakesPart nodes clients blocks spare differences value k r nodes' clients' blocks' spare' differences') begun-is made)
 
   pub looked-said : (w₁ w₂ : Walk) → NodesLooked nodes w w₁ → ClientsLooked clients w₁ w₂
       → Goes nodes clients blocks spare differences value w₂ r nodes' clients' blocks' spare' differences' → Said

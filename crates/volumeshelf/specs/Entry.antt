@@ -1,20 +1,18 @@
 -- What the loops over the tables and the calls on one stripe's parts say. Assumes nothing.
-use Rattle.std.specs.Prelude.{cond, not, ◌&&◌, List, ◌≡◌, ℕ, ◌≤◌, get_or, length, replicate}
+use Rattle.std.specs.Prelude.{cond, not, ◌&&◌, List, ◌≡◌, ℕ, ◌≤◌, get_or, length}
 use Rattle.calls.specs.declared.Answer.{Answer}
 use Rattle.parts.specs.Inside.{Inside, Range}
 use Rattle.parts.specs.Turns.{Gone}
 use Rattle.records.specs.declared.ClientRecord.{ClientRecord}
 use Rattle.records.specs.declared.NodeRecord.{NodeRecord}
-use Rattle.records.specs.Client.{client_within, fresh_client}
-use Rattle.records.specs.Node.{fresh_node, node_within}
+use Rattle.records.specs.Client.{client_within}
+use Rattle.records.specs.Node.{node_within}
 use Rattle.records.specs.View.{client_of, node_of}
 use Rattle.shelf.specs.Shelf.{PicksOnly, StepsLent}
-use Rattle.taking.specs.Table.{clients_in, nodes_in}
 use Rattle.step.specs.View.{blank_client}
 use Rattle.stripe.specs.View.{blank_record}
 use Rattle.routing.specs.declared.Walk.{Walk}
 use Rattle.routing.specs.Walks.{Looks, after_of, client_end, goes_on, is_place_of, node_end, pick_request_of, picks_of, step_request_of, stopping_of, value_from, value_to}
-use Rattle.tables.specs.declared.Renewal.{Renewal}
 use Rattle.tables.specs.Parts.{part_of, table_blocks, table_differences}
 
 -- every node's record, and the client's in every stripe
@@ -61,15 +59,14 @@ abbrev pub PicksPart : List NodeRecord → List ClientRecord → List ℕ → Li
     → List NodeRecord → List ClientRecord → List ℕ → List ℕ → List ℕ → Type 0
 PicksPart = OnParts PicksOnly pick_request_of
 
+-- a pick, or another call
+abbrev pub MakesPart : List NodeRecord → List ClientRecord → List ℕ → List ℕ → List ℕ → List ℕ → Walk → Answer
+    → List NodeRecord → List ClientRecord → List ℕ → List ℕ → List ℕ → Type 0
+MakesPart nodes clients blocks spare differences value w answer nodes' clients' blocks' spare' differences' =
+    cond (picks_of w) (PicksPart nodes clients blocks spare differences value w answer nodes' clients' blocks' spare' differences')
+    (StepsPart nodes clients blocks spare differences value w answer nodes' clients' blocks' spare' differences')
+
 -- the stripes that the call goes to, one after the other; the answer is that of the last
 abbrev pub Goes : List NodeRecord → List ClientRecord → List ℕ → List ℕ → List ℕ → List ℕ → Walk → Answer
     → List NodeRecord → List ClientRecord → List ℕ → List ℕ → List ℕ → Type 0
 Goes = Gone picks_of PicksPart StepsPart goes_on after_of (λ w. w.answer)
-
--- ---- a fresh volume
-
-abbrev pub NodesRenewed : List NodeRecord → Renewal → List NodeRecord → Type 0
-NodesRenewed nodes r nodes' = cond r.fits (nodes_in nodes' ≡ replicate (length nodes) fresh_node) (nodes' ≡ nodes)
-
-abbrev pub ClientsRenewed : List ClientRecord → Renewal → List ClientRecord → Type 0
-ClientsRenewed clients r clients' = cond r.fits (clients_in clients' ≡ replicate (length clients) fresh_client) (clients' ≡ clients)

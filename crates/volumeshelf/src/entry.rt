@@ -1,15 +1,16 @@
 // The entry points, and the calls on the part of one stripe.
-ghost use Rattle.volumeshelf.specs.Entry.{Goes, PicksPart, StepsPart};
+ghost use Rattle.volumeshelf.specs.Entry.{Goes, MakesPart};
 ghost use Rattle.volumeshelf.specs.Volumes.{AnswersVolume, CallsVolume, FreshVolume, ReadsVolume};
 
-use crate::table::{look_clients, look_nodes, renew_clients, renew_nodes};
+use crate::table::{look_clients, look_nodes};
 use calls::{Answer, Reading};
 use records::{ClientRecord, NodeRecord};
 use routing::{ReadRequest, Request, SizedRead, Walk};
 use tables::Volume;
 
-// A step on the tables' parts of the stripe that the call has come to.
-fn step_part(
+// The call on the tables' parts of the stripe that it has come to.
+#[inline(always)]
+fn on_stripe(
     nodes: &mut [NodeRecord],
     clients: &mut [ClientRecord],
     blocks: &mut [u8],
@@ -18,126 +19,46 @@ fn step_part(
     value: &[u8],
     walk: Walk,
 ) -> Answer
-    ensures { StepsPart nodes.old clients.old blocks.old spare.old differences.old
+    ensures { MakesPart nodes.old clients.old blocks.old spare.old differences.old
         value.now walk result nodes.new clients.new blocks.new spare.new differences.new }
 {
-    let n0 = nodes.len();
-    let a0 = walk.nodes_from(n0);
-    let e0 = walk.nodes_to(n0);
-    let n1 = clients.len();
-    let a1 = walk.clients_from(n1);
-    let e1 = walk.clients_to(n1);
-    let n2 = blocks.len();
-    let a2 = walk.blocks_from(n2);
-    let e2 = walk.blocks_to(n2);
-    let n3 = spare.len();
-    let a3 = walk.blocks_from(n3);
-    let e3 = walk.blocks_to(n3);
-    let n4 = differences.len();
-    let a4 = walk.differences_from(n4);
-    let e4 = walk.differences_to(n4);
-    let n5 = value.len();
-    let a5 = walk.value_from(n5);
-    let e5 = walk.value_to(n5);
-    let request = walk.step();
-    shelf::step(
-        &mut nodes[a0..e0],
-        &mut clients[a1..e1],
-        &mut blocks[a2..e2],
-        &mut spare[a3..e3],
-        &mut differences[a4..e4],
-        &value[a5..e5],
-        request,
-    )
+    let n = walk.nodes_part(nodes.len());
+    let c = walk.clients_part(clients.len());
+    let b = walk.blocks_part(blocks.len());
+    let s = walk.blocks_part(spare.len());
+    let d = walk.differences_part(differences.len());
+    let v = walk.value_part(value.len());
+    let nodes = &mut nodes[n.start..n.end];
+    let clients = &mut clients[c.start..c.end];
+    let blocks = &mut blocks[b.start..b.end];
+    let spare = &mut spare[s.start..s.end];
+    let differences = &mut differences[d.start..d.end];
+    let value = &value[v.start..v.end];
+    if walk.picks() {
+        shelf::pick(
+            nodes,
+            clients,
+            blocks,
+            spare,
+            differences,
+            value,
+            walk.pick(),
+        )
+    } else {
+        shelf::step(
+            nodes,
+            clients,
+            blocks,
+            spare,
+            differences,
+            value,
+            walk.step(),
+        )
+    }
 }
 
-// The same of a call that goes to one stripe alone. A function with one caller is compiled into it: this one into `call`, for speed.
-fn step_one(
-    nodes: &mut [NodeRecord],
-    clients: &mut [ClientRecord],
-    blocks: &mut [u8],
-    spare: &mut [u8],
-    differences: &mut [u8],
-    value: &[u8],
-    walk: Walk,
-) -> Answer
-    ensures { StepsPart nodes.old clients.old blocks.old spare.old differences.old
-        value.now walk result nodes.new clients.new blocks.new spare.new differences.new }
-{
-    let n0 = nodes.len();
-    let a0 = walk.nodes_from(n0);
-    let e0 = walk.nodes_to(n0);
-    let n1 = clients.len();
-    let a1 = walk.clients_from(n1);
-    let e1 = walk.clients_to(n1);
-    let n2 = blocks.len();
-    let a2 = walk.blocks_from(n2);
-    let e2 = walk.blocks_to(n2);
-    let n3 = spare.len();
-    let a3 = walk.blocks_from(n3);
-    let e3 = walk.blocks_to(n3);
-    let n4 = differences.len();
-    let a4 = walk.differences_from(n4);
-    let e4 = walk.differences_to(n4);
-    let n5 = value.len();
-    let a5 = walk.value_from(n5);
-    let e5 = walk.value_to(n5);
-    let request = walk.step();
-    shelf::step(
-        &mut nodes[a0..e0],
-        &mut clients[a1..e1],
-        &mut blocks[a2..e2],
-        &mut spare[a3..e3],
-        &mut differences[a4..e4],
-        &value[a5..e5],
-        request,
-    )
-}
-
-// A pick on such parts.
-fn pick_part(
-    nodes: &mut [NodeRecord],
-    clients: &mut [ClientRecord],
-    blocks: &mut [u8],
-    spare: &mut [u8],
-    differences: &mut [u8],
-    value: &[u8],
-    walk: Walk,
-) -> Answer
-    ensures { PicksPart nodes.old clients.old blocks.old spare.old differences.old
-        value.now walk result nodes.new clients.new blocks.new spare.new differences.new }
-{
-    let n0 = nodes.len();
-    let a0 = walk.nodes_from(n0);
-    let e0 = walk.nodes_to(n0);
-    let n1 = clients.len();
-    let a1 = walk.clients_from(n1);
-    let e1 = walk.clients_to(n1);
-    let n2 = blocks.len();
-    let a2 = walk.blocks_from(n2);
-    let e2 = walk.blocks_to(n2);
-    let n3 = spare.len();
-    let a3 = walk.blocks_from(n3);
-    let e3 = walk.blocks_to(n3);
-    let n4 = differences.len();
-    let a4 = walk.differences_from(n4);
-    let e4 = walk.differences_to(n4);
-    let n5 = value.len();
-    let a5 = walk.value_from(n5);
-    let e5 = walk.value_to(n5);
-    let request = walk.pick();
-    shelf::pick(
-        &mut nodes[a0..e0],
-        &mut clients[a1..e1],
-        &mut blocks[a2..e2],
-        &mut spare[a3..e3],
-        &mut differences[a4..e4],
-        &value[a5..e5],
-        request,
-    )
-}
-
-// The stripes that a call goes to, one after the other. It has two callers, and so is not compiled into `call`, where a step of one stripe would pay for it.
+// The stripes that a call goes to, one after the other. Not inlined into `call`, where a step of one stripe would pay for it.
+#[inline(never)]
 fn each(
     nodes: &mut [NodeRecord],
     clients: &mut [ClientRecord],
@@ -152,15 +73,8 @@ fn each(
 {
     let mut walk = begun;
     while walk.goes_on() {
-        if walk.picks() {
-            let answer = pick_part(nodes, clients, blocks, spare, differences, value, walk);
-            let next = walk.after(answer);
-            walk = next;
-        } else {
-            let answer = step_part(nodes, clients, blocks, spare, differences, value, walk);
-            let next = walk.after(answer);
-            walk = next;
-        }
+        let answer = on_stripe(nodes, clients, blocks, spare, differences, value, walk);
+        walk = walk.after(answer);
     }
     walk.answer
 }
@@ -186,7 +100,7 @@ pub fn call(
     let n5 = value.len();
     let begun = request.begin(n0, n1, n2, n3, n4, n5);
     if begun.is_one_step() {
-        return step_one(nodes, clients, blocks, spare, differences, value, begun);
+        return on_stripe(nodes, clients, blocks, spare, differences, value, begun);
     }
     if begun.looks() {
         let seen = look_nodes(nodes, begun);
@@ -203,12 +117,10 @@ pub fn read_answer(nodes: &[NodeRecord], clients: &[ClientRecord], request: Size
     let n0 = nodes.len();
     let n1 = clients.len();
     let walk = request.begin(n0, n1);
-    let a0 = walk.nodes_from(n0);
-    let e0 = walk.nodes_to(n0);
-    let a1 = walk.clients_from(n1);
-    let e1 = walk.clients_to(n1);
+    let n = walk.nodes_part(n0);
+    let c = walk.clients_part(n1);
     let inner = walk.read();
-    let answer = shelf::read_answer(&nodes[a0..e0], &clients[a1..e1], inner);
+    let answer = shelf::read_answer(&nodes[n.start..n.end], &clients[c.start..c.end], inner);
     walk.after(answer)
 }
 
@@ -240,11 +152,8 @@ pub fn fresh(
     ensures { FreshVolume nodes.old clients.old blocks.old volume result
         nodes.new clients.new blocks.new }
 {
-    let n0 = nodes.len();
-    let n1 = clients.len();
-    let n2 = blocks.len();
-    let renewal = volume.renewal(n0, n1, n2);
-    renew_nodes(nodes, renewal);
-    renew_clients(clients, renewal);
-    renewal.zero(blocks)
+    match volume.renew(nodes, clients, blocks) {
+        Ok(()) => Answer::Accepted,
+        Err(why) => Answer::Refused(why),
+    }
 }

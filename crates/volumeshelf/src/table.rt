@@ -1,9 +1,8 @@
-// A table is looked at, and made fresh. The loops are of two forms (crate lent).
-ghost use Rattle.volumeshelf.specs.Entry.{ClientsLooked, ClientsRenewed, NodesLooked, NodesRenewed};
+// A table is looked at (crate lent).
+ghost use Rattle.volumeshelf.specs.Entry.{ClientsLooked, NodesLooked};
 
 use records::{ClientRecord, NodeRecord};
 use routing::Walk;
-use tables::Renewal;
 
 pub(crate) fn look_nodes(nodes: &[NodeRecord], begun: Walk) -> Walk
     ensures { NodesLooked nodes.now begun result }
@@ -33,30 +32,4 @@ pub(crate) fn look_clients(clients: &[ClientRecord], begun: Walk) -> Walk
         i = i + 1;
     }
     walk
-}
-
-pub(crate) fn renew_nodes(nodes: &mut [NodeRecord], renewal: Renewal)
-    ensures { NodesRenewed nodes.old renewal nodes.new }
-{
-    let len = nodes.len();
-    let mut i = renewal.first();
-    let end = renewal.end_in(len);
-    while i < end {
-        let node = nodes[i];
-        nodes[i] = renewal.node(i, node);
-        i = i + 1;
-    }
-}
-
-pub(crate) fn renew_clients(clients: &mut [ClientRecord], renewal: Renewal)
-    ensures { ClientsRenewed clients.old renewal clients.new }
-{
-    let len = clients.len();
-    let mut i = renewal.first();
-    let end = renewal.end_in(len);
-    while i < end {
-        let client = clients[i];
-        clients[i] = renewal.client(i, client);
-        i = i + 1;
-    }
 }

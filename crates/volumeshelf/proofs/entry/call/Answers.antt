@@ -6,8 +6,8 @@ pub returns-then-is_one_step : goal.returns-then-is_one_step
 returns-then-is_one_step c =
     one-said c.args.nodes.now c.args.clients.now c.args.blocks.now c.args.spare.now c.args.differences.now c.args.value.now c.args.request
     c.begin-begun.result c.begin-begun.ensures
-    c.step_one.result c.step_one.new.nodes c.step_one.new.clients c.step_one.new.blocks c.step_one.new.spare c.step_one.new.differences
-    c.if-is_one_step.ensures c.step_one.ensures
+    c.on_stripe.result c.on_stripe.new.nodes c.on_stripe.new.clients c.on_stripe.new.blocks c.on_stripe.new.spare c.on_stripe.new.differences
+    c.if-is_one_step.ensures c.on_stripe.ensures
 
 pub returns-then-looks : goal.returns-then-looks
 returns-then-looks c =

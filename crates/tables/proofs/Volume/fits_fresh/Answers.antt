@@ -1,7 +1,7 @@
 -- The tests, in order. Assumes nothing.
 use borrow.Author.Tests.{eq-eqb, ne_eqb}
 use Rattle.tables.proofs.Renewing.{fresh-fits}
-use Rattle.tables.proofs.Volume.renewal.Goals as goal
+use Rattle.tables.proofs.Volume.fits_fresh.Goals as goal
 
 pub returns-then-clients-lengths : goal.returns-then-clients-lengths
 returns-then-clients-lengths c = rw (
