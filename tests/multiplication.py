@@ -29,7 +29,7 @@ MULTIPLICATIONS = {
     "blocks::doublings::Doublings::of": "a factor made ready for many",
     "blocks::doublings::Doublings::times": "by the bits of the other factor",
     "kernel::plan::pack": "the bits of four weights, made ready",
-    "kernel::bits::eight_bits": "twelve weights times twelve bytes, and their sum, by the bits of the weights",
+    "kernel::bits::step": "a sum doubled, and what one bit of twelve weights adds",
     "coding::weights::over": "a quotient, by logarithms",
 }
 
@@ -37,11 +37,9 @@ MULTIPLICATIONS = {
 LOOPS = {
     "blocks::add_times": "each byte of a block",
     "kernel::plan::pack_all": "each four weights",
+    "kernel::bits::sum_of": "twelve weights times twelve bytes, and their sum, by each bit of the weights",
     "kernel::bits::sixteen": "each of sixteen bytes",
-    "kernel::bits::sixteen_plain": "each of sixteen bytes, by weights of one bit",
-    "kernel::bits::fill_bits": "each sixteen bytes of a block",
-    "kernel::bits::fill_plain": "the same, by weights of one bit",
-    "lanes::write": "each of sixteen bytes, copied",
+    "kernel::bits::fill_sixteens": "each sixteen bytes of a block",
     "coding::weights::span": "each factor of a product, by logarithms",
     "coding::weights::recover_row": "each weight of a lost block, by logarithms",
 }
@@ -59,7 +57,7 @@ CALLERS = {
     "coding::weights::share_of": "the factors of one node",
     "coding::recovering::node_row": "whether a node is among those decoded from",
     "coding::recovering::fill_rows": "each node's row",
-    "kernel::bits::fill_whole": "which of the two loops a block's bytes go through",
+    "kernel::bits::fill_whole": "by how many bits a block's bytes are made",
     "kernel::combine": "each tile",
 }
 
@@ -116,8 +114,8 @@ pub fn square(a: u8) -> u8 {
     product(a, a)
 }
 """,
-    "crates/tables/src/lib.rt": "pub mod deep;\n\npub fn power(a: u8) -> u8 {\n    deep::entry(a)[0]\n}\n",
-    "crates/tables/src/deep.rt": "pub fn entry(a: u8) -> [u8; 2] {\n    [0, a * 2]\n}\n",
+    "crates/tables/src/lib.rt": "pub mod deep;\n\npub fn power(a: u8) -> u8 {\n    deep::entry::<2>(a)[0]\n}\n",
+    "crates/tables/src/deep.rt": "pub fn entry<const N: usize>(a: u8) -> [u8; N] {\n    let mut t = [0; N];\n    t.copy_from_slice(&[0, a * 2]);\n    t\n}\n",
 }
 BODY, LOOP, DEEP = "let p = Pair { iffy: a };", "t[i] = product(a, t[i]);", "a * 2"
 # a line of the source, what it becomes, and what must be said of it
@@ -130,12 +128,14 @@ WRONG = [
     *[(BODY, f"let p = a {sign} b;", f"a comparison: {sign}") for sign in ("==", "!=", "<", ">", "<=", ">=")],
     (BODY, "let p = a && b;", "an &&"),
     (BODY, "let p = a || b;", "an ||"),
-    ("deep::entry(a)[0]", "if a { 1 } else { 2 }", "tables::power has an if"),  # two calls deep, in another crate
+    ("deep::entry::<2>(a)[0]", "if a { 1 } else { 2 }", "tables::power has an if"),  # two calls deep, in another crate
     (DEEP, "match a { _ => 1 }", "tables::deep::entry has a match"),  # three
     (BODY, "let p = each(a, b);", "small::each has a loop"),
     (DEEP, "power(a)", "which is not in the source"),
     (DEEP, "crate::power(a)", "calls itself"),
     (DEEP, "a.min(2)", "which is not in the source"),
+    (DEEP, "far::<2>(a)", "which is not in the source"),
+    (DEEP, "a < 2", "a comparison: <"),
     (DEEP, "assert!(a)", "is not arithmetic"),
     (DEEP, "return a;", "is not arithmetic"),
     ("self.iffy ^ 1", "self.iffy < 1", "Pair::sum has a comparison"),  # by a method

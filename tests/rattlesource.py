@@ -85,6 +85,22 @@ def ghost_end(tokens, at):
     return matching(tokens, at) if tokens[at].text == "{" else at
 
 
+def without_arguments(tokens):
+    """The tokens without the type and const arguments of calls, as in f::<8>(a)."""
+    kept, at = [], 0
+    while at < len(tokens):
+        if tokens[at].text == "::" and at + 1 < len(tokens) and tokens[at + 1].text == "<":
+            at += 2
+            while tokens[at].text != ">":
+                if tokens[at].kind not in ("word", "number") and tokens[at].text != ",":
+                    raise Unreadable(f"line {tokens[at].line}: {tokens[at].text} among the arguments of a call's type")
+                at += 1
+        else:
+            kept.append(tokens[at])
+        at += 1
+    return tuple(kept)
+
+
 class Source:
     def __init__(self, files):
         self.functions = {}  # by path
@@ -139,7 +155,7 @@ class Source:
             at += 1
         end = matching(tokens, at)
         path = (*module, owner, name) if owner else (*module, name)
-        function = Function(path, owner is not None, file, line, tuple(tokens[at + 1 : end]))
+        function = Function(path, owner is not None, file, line, without_arguments(tokens[at + 1 : end]))
         self.functions[path] = function
         if owner:
             self.methods.setdefault(name, []).append(function)

@@ -1,8 +1,7 @@
 // Products of one byte by many, with no table: so that LLVM takes many bytes at once.
 ghost use Rattle.std.specs.Prelude.{◌≡◌, ◌%◌, ◌*◌};
 ghost use Rattle.std.specs.Int.Bits.{bit_xor};
-ghost use Rattle.gf256.specs.Field.{product};
-ghost use Rattle.blocks.specs.Doublings.{doublings};
+ghost use Rattle.gf256.specs.Field.{double, product};
 
 // A byte and its doublings.
 #[derive(Clone, Copy)]
@@ -15,6 +14,7 @@ pub struct Doublings {
     pub c5: u8,
     pub c6: u8,
     pub c7: u8,
+    pub ghost doubled: { (c1 ≡ double c0) × (c2 ≡ double c1) × (c3 ≡ double c2) × (c4 ≡ double c3) × (c5 ≡ double c4) × (c6 ≡ double c5) × (c7 ≡ double c6) },
 }
 
 // c where the lowest bit of s is set, plus what the bits above it add.
@@ -26,7 +26,7 @@ fn add_bit(s: u8, c: u8, above: u8) -> u8
 
 impl Doublings {
     pub fn of(c: u8) -> Self
-        ensures { result ≡ doublings c }
+        ensures { result.c0 ≡ c }
     {
         let c1 = gf256::double(c);
         let c2 = gf256::double(c1);
@@ -49,7 +49,6 @@ impl Doublings {
 
     // The product by s: each bit of s adds the doubling of its place.
     pub fn times(self, s: u8) -> u8
-        requires { self ≡ doublings self.c0 }
         ensures { result ≡ product self.c0 s }
     {
         let s1 = s / 2;

@@ -13,22 +13,14 @@ use doublings::Doublings;
 pub fn clear(dst: &mut [u8])
     ensures { dst.new ≡ replicate (length dst.old) 0 }
 {
-    let mut i = 0;
-    while i < dst.len() {
-        dst[i] = 0;
-        i += 1;
-    }
+    dst.fill(0);
 }
 
 pub fn copy(dst: &mut [u8], src: &[u8])
     requires { length dst.old ≡ length src.now }
     ensures { dst.new ≡ src.now }
 {
-    let mut i = 0;
-    while i < src.len() {
-        dst[i] = src[i];
-        i += 1;
-    }
+    dst.copy_from_slice(src);
 }
 
 // The value into the block, and what it differs by from the old block into the difference.
@@ -37,11 +29,9 @@ pub fn swap(block: &mut [u8], difference: &mut [u8], value: &[u8])
     ensures block { block.new ≡ value.now }
     ensures difference { difference.new ≡ Blocks.difference value.now block.old }
 {
-    let mut i = 0;
-    while i < value.len() {
-        difference[i] = value[i] ^ block[i];
-        block[i] = value[i];
-        i += 1;
+    for (i, v) in value.iter().enumerate() {
+        difference[i] = *v ^ block[i];
+        block[i] = *v;
     }
 }
 
@@ -51,11 +41,8 @@ pub fn add_times(dst: &mut [u8], src: &[u8], c: u8)
     ensures { dst.new ≡ add_times c dst.old src.now }
 {
     let m = Doublings::of(c);
-    let mut i = 0;
-    while i < src.len() {
-        let p = m.times(src[i]);
-        dst[i] = dst[i] ^ p;
-        i += 1;
+    for (i, s) in src.iter().enumerate() {
+        dst[i] ^= m.times(*s);
     }
 }
 
@@ -65,10 +52,7 @@ pub fn add_times(dst: &mut [u8], src: &[u8], c: u8)
 fn has_block(len: usize, b: usize, j: usize) -> bool
     ensures { result ≡ has_block b j len }
 {
-    if j == 0 {
-        return false;
-    }
-    b <= len / j
+    j != 0 && b <= len / j
 }
 
 // The block itself, a part of the table; an empty part where the table does not have it.
@@ -77,8 +61,7 @@ pub fn block_of<'a>(t: &'a [u8], b: usize, j: usize) -> &'a [u8]
 {
     if has_block(t.len(), b, j) {
         let a = (j - 1) * b;
-        let e = a + b;
-        return &t[a..e];
+        return &t[a..a + b];
     }
     &t[..0]
 }
@@ -88,8 +71,7 @@ pub fn copy_block(t: &mut [u8], b: usize, j: usize, src: &[u8])
     ensures { t.new ≡ set_block b j src.now t.old }
 {
     let a = (j - 1) * b;
-    let e = a + b;
-    copy(&mut t[a..e], src);
+    copy(&mut t[a..a + b], src);
 }
 
 pub fn add_times_block(t: &mut [u8], b: usize, j: usize, src: &[u8], c: u8)
@@ -97,8 +79,7 @@ pub fn add_times_block(t: &mut [u8], b: usize, j: usize, src: &[u8], c: u8)
     ensures { t.new ≡ set_block b j (add_times c (Blocks.block b j t.old) src.now) t.old }
 {
     let a = (j - 1) * b;
-    let e = a + b;
-    add_times(&mut t[a..e], src, c);
+    add_times(&mut t[a..a + b], src, c);
 }
 
 pub fn swap_block(t: &mut [u8], b: usize, j: usize, difference: &mut [u8], value: &[u8])
@@ -107,6 +88,5 @@ pub fn swap_block(t: &mut [u8], b: usize, j: usize, difference: &mut [u8], value
     ensures difference { difference.new ≡ Blocks.difference value.now (Blocks.block b j t.old) }
 {
     let a = (j - 1) * b;
-    let e = a + b;
-    swap(&mut t[a..e], difference, value);
+    swap(&mut t[a..a + b], difference, value);
 }

@@ -9,7 +9,7 @@ use Rattle.blocks.specs.Blocks.{block, byte_at, table, Bytes}
 use Rattle.blocks.proofs.Parts.{part_at, part_length, block-fits}
 use Rattle.blocks.proofs.Tables.{length-table, byte_at-table, table-ext}
 use Rattle.kernel.specs.Working.{combined, Prepared, Filled, packed}
-use Rattle.kernel.proofs.Highest.{highest-combined}
+use Rattle.kernel.proofs.Highest.{down-combined}
 
 -- ---- a row of the weights
 
@@ -72,7 +72,7 @@ module _ (m b : ℕ) (t starts rows : List ℕ) where
           let e : p + (i - p) ≡ i = omega arith in
           let in-tile : i - p < n = omega arith in
           ap (λ k. get_or out (u * b + k) 0) (sym e) ∙ filled.done u (i - p) hu in-tile
-          ∙ highest-combined t starts (block 12 (suc u) rows) p n s made twelve bt (row-bytes m rows many u hu br) (i - p) in-tile _ _ _
+          ∙ down-combined t starts (block 12 (suc u) rows) p n s made twelve bt (row-bytes m rows many u hu br) (i - p) in-tile _ _ _
           (group u 0 hu (omega arith) (3 * u) (omega arith)) (group u 1 hu (omega arith) (3 * u + 1) refl) (group u 2 hu (omega arith) (3 * u + 2) refl)
           ∙ ap (combined t starts (block 12 (suc u) rows)) e
 

@@ -12,7 +12,7 @@ use Rattle.gf256.proofs.Xor.{low_bit, xors, xor_assoc, xor_zero_l}
 use Rattle.blocks.specs.Blocks.{Bytes}
 use Rattle.lanes.specs.Lanes.{lane, chosen}
 use Rattle.lanes.proofs.Sixteen.{lane_in}
-use Rattle.kernel.specs.Working.{combined, Prepared, FirstZero, Zeroed, group_sum, spread, packed, place, stepped, highest}
+use Rattle.kernel.specs.Working.{combined, Prepared, FirstZero, Zeroed, group_sum, spread, packed, place, stepped, down}
 use Rattle.kernel.proofs.Horner.{above, byte, bits, above-none, above-all, above-next}
 
 -- ---- digits
@@ -91,16 +91,15 @@ no_digit x h g l =
     rw none (omega arith)
 
 module _ (s : List ℕ) (x y z i : ℕ) (lx : x < 16) (ly : y < 16) (lz : z < 16) (first : FirstZero s i) where
-  no_bits : (k : ℕ) → k ≤ 7 → highest s x y z i k ≡ 0
-  unfolding highest stepped double
-  no_bits zero l = refl
-  no_bits (suc k) l =
-      let h : 7 - k ≡ suc (6 - k) = omega arith in
-      rw (h, no_bits k (omega arith), no_digit x (6 - k) 0 lx, no_digit y (6 - k) 1 ly, no_digit z (6 - k) 2 lz, first.at 0 (omega arith), first.at 1 (omega arith), first.at 2 (omega arith))
+  -- a bit above the lowest adds nothing
+  no_bit : (h : ℕ) → stepped s x y z i (suc h) 0 ≡ 0
+  unfolding stepped double
+  no_bit h = rw (no_digit x h 0 lx, no_digit y h 1 ly, no_digit z h 2 lz, first.at 0 (omega arith), first.at 1 (omega arith), first.at 2 (omega arith))
 
-  pub plain-is : stepped s x y z i 0 0 ≡ highest s x y z i 8
-  unfolding highest
-  plain-is = ap (stepped s x y z i 0) (sym (no_bits 7 (omega arith)))
+  pub plain-is : (n : ℕ) → down s x y z i 1 0 ≡ down s x y z i (suc n) 0
+  unfolding down
+  plain-is zero = refl
+  plain-is (suc n) = plain-is n ∙ ap (down s x y z i (suc n)) (sym (no_bit n))
 
 -- ---- a byte of a tile
 
@@ -151,16 +150,14 @@ module _ (t starts row : List ℕ) (p n : ℕ) (s : List ℕ) (made : Prepared t
         )
         (simp xor_assoc)
 
-    all-bits : (k : ℕ) → k ≤ 8 → highest s x y z at k ≡ above t starts row (p + i) (8 - k)
-    unfolding highest
-    all-bits zero l8 = sym (above-none t starts row (p + i) weights)
-    all-bits (suc k) l8 =
-        let next : 8 - k ≡ suc (7 - k) = omega arith in
-        let here : 8 - suc k ≡ 7 - k = omega arith in
-        rw (here, all-bits k (omega arith), next) (one_bit (7 - k) (omega arith))
+    all-bits : (k : ℕ) → k ≤ 8 → down s x y z at k (above t starts row (p + i) k) ≡ above t starts row (p + i) 0
+    unfolding down
+    all-bits zero l8 = refl
+    all-bits (suc k) l8 = ap (down s x y z at k) (one_bit k (omega arith)) ∙ all-bits k (omega arith)
 
-    pub highest-combined : highest s x y z at 8 ≡ combined t starts row (p + i)
-    highest-combined = all-bits 8 (omega arith) ∙ above-all t starts row (p + i)
+    pub down-combined : down s x y z at 8 0 ≡ combined t starts row (p + i)
+    down-combined =
+        ap (down s x y z at 8) (sym (above-none t starts row (p + i) weights)) ∙ all-bits 8 (omega arith) ∙ above-all t starts row (p + i)
 
 -- ---- the sums that no bit chooses
 

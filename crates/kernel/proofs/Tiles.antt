@@ -15,7 +15,7 @@ use Rattle.basics.specs.Lists.{list_of}
 use Rattle.lanes.specs.Lanes.{lane, chosen}
 use Rattle.blocks.proofs.Parts.{set-length, put_in, put-before, put-after}
 use Rattle.basics.proofs.Lists.{length-list_of, get_or-list_of, list_of-cong}
-use Rattle.kernel.specs.Working.{Summed, Prepared, FirstZero, Sixteens, Filled, group_sum, spread, highest}
+use Rattle.kernel.specs.Working.{Summed, Prepared, Lowest, Filled, group_sum, spread, down}
 
 -- ---- a group
 
@@ -112,24 +112,24 @@ put_is a k p r old fits e long far =
     )
 
 -- sixteen bytes more
-pub sixteens-turn : (s : List ℕ) (x y z e n c : ℕ) (out r d : List ℕ) → 16 * c + 16 ≤ n → Sixteens s x y z e n c out → length r ≡ 16 → d ≡ r
-    → ((l : ℕ) → l < 16 → FirstZero s (e + c * 768 + l) → get_or r l 0 ≡ highest s x y z (e + c * 768 + l) 8)
-    → Sixteens s x y z e n (c + 1) (set_part (16 * c) (16 * c + 16 - 16 * c) d out)
-sixteens-turn s x y z e n c out r d room upto many same here =
-    rw (same, add-sub_cancel_left (16 * c) 16) (set-length (16 * c) 16 r out fits many ∙ upto.0, λ i hi first. by i hi first (dec_lt i (16 * c)))
+pub sixteens-turn : (m : ℕ) (s : List ℕ) (x y z e n c : ℕ) (out r d : List ℕ) → 16 * c + 16 ≤ n → Lowest m s x y z e n c out → length r ≡ 16 → d ≡ r
+    → ((l : ℕ) → l < 16 → get_or r l 0 ≡ down s x y z (e + c * 768 + l) m 0)
+    → Lowest m s x y z e n (c + 1) (set_part (16 * c) (16 * c + 16 - 16 * c) d out)
+sixteens-turn m s x y z e n c out r d room upto many same here =
+    rw (same, add-sub_cancel_left (16 * c) 16) (set-length (16 * c) 16 r out fits many ∙ upto.0, λ i hi. by i hi (dec_lt i (16 * c)))
   where
     fits : 16 * c + 16 ≤ length out
     fits = omega arith
 
-    by : (i : ℕ) → i < 16 * (c + 1) → FirstZero s (e + (i / 16 * 768 + i % 16)) → Dec (i < 16 * c)
-        → get_or (set_part (16 * c) 16 r out) i 0 ≡ highest s x y z (e + (i / 16 * 768 + i % 16)) 8
-    by i hi first (yes l) = put-before (16 * c) 16 r out fits many i l ∙ upto.1 i l first
-    by i hi first (no o) =
+    by : (i : ℕ) → i < 16 * (c + 1) → Dec (i < 16 * c)
+        → get_or (set_part (16 * c) 16 r out) i 0 ≡ down s x y z (e + (i / 16 * 768 + i % 16)) m 0
+    by i hi (yes l) = put-before (16 * c) 16 r out fits many i l ∙ upto.1 i l
+    by i hi (no o) =
         let l : ℕ = i - 16 * c in
         let it : 16 * c + l ≡ i = omega arith in
         let at : e + (i / 16 * 768 + i % 16) ≡ e + c * 768 + l = omega arith in
         ap (λ k. get_or (set_part (16 * c) 16 r out) k 0) (sym it) ∙ put_in (16 * c) 16 r out fits many l (omega arith)
-        ∙ here l (omega arith) (subst (FirstZero s) at first) ∙ ap (λ k. highest s x y z k 8) (sym at)
+        ∙ here l (omega arith) ∙ ap (λ k. down s x y z k m 0) (sym at)
 
 -- the whole sixteens of n bytes, and then the rest, which r has
 module _ (P : ℕ → Type 0) (f : ℕ → ℕ) (n : ℕ) (fine : (i : ℕ) → i < n → P (i / 16 * 768 + i % 16)) (whole : List ℕ)
@@ -159,7 +159,7 @@ blocks-below u j b l = omega (arith, suc-mul u b, mul-le-mul_right b l)
 
 module _ (m b p n : ℕ) (s plan old : List ℕ) (room : p + n ≤ b) where
   abbrev goal : ℕ → ℕ → ℕ
-  goal u i = highest s (get_or plan (3 * u) 0) (get_or plan (3 * u + 1) 0) (get_or plan (3 * u + 2) 0) (i / 16 * 768 + i % 16) 8
+  goal u i = down s (get_or plan (3 * u) 0) (get_or plan (3 * u + 1) 0) (get_or plan (3 * u + 2) 0) (i / 16 * 768 + i % 16) 8 0
 
   pub filled_none : length old ≡ m * b → Filled m b p n s plan old 0 old
   filled_none e = record { size = e; before = λ u i hu hi. refl; done = λ u i hu hi. absurd (omega arith) }

@@ -57,22 +57,27 @@ unfoldable pub stepped : List ℕ → ℕ → ℕ → ℕ → ℕ → ℕ → �
 stepped s x y z i h above =
     bit_xor (bit_xor (bit_xor (double above) (get_or s (place x h 0 + i) 0)) (get_or s (place y h 1 + i) 0)) (get_or s (place z h 2 + i) 0)
 
--- the n highest bits of eight
-unfoldable pub highest : List ℕ → ℕ → ℕ → ℕ → ℕ → ℕ → ℕ
-highest s x y z i zero = 0
-highest s x y z i (suc n) = stepped s x y z i (7 - n) (highest s x y z i n)
+-- the n lowest bits, from the highest of them down, after the sum of those above
+unfoldable pub down : List ℕ → ℕ → ℕ → ℕ → ℕ → ℕ → ℕ → ℕ
+down s x y z i zero above = above
+down s x y z i (suc n) above = down s x y z i n (stepped s x y z i n above)
 
--- out, of n bytes, has its first c sixteens, the sums of the first of which begin at e: each byte whose first sums are 0
+-- out, of n bytes, has its first c sixteens, the sums of the first of which begin at e: by the m lowest bits
+abbrev pub Lowest : ℕ → List ℕ → ℕ → ℕ → ℕ → ℕ → ℕ → ℕ → List ℕ → Type 0
+Lowest m s x y z e n c out =
+    (length out ≡ n) × ((i : ℕ) → i < 16 * c → get_or out i 0 ≡ down s x y z (e + (i / 16 * 768 + i % 16)) m 0)
+
+-- by all bits: each byte whose first sums are 0
 abbrev pub Sixteens : List ℕ → ℕ → ℕ → ℕ → ℕ → ℕ → ℕ → List ℕ → Type 0
 Sixteens s x y z e n c out =
-    (length out ≡ n) × ((i : ℕ) → i < 16 * c → FirstZero s (e + (i / 16 * 768 + i % 16)) → get_or out i 0 ≡ highest s x y z (e + (i / 16 * 768 + i % 16)) 8)
+    (length out ≡ n) × ((i : ℕ) → i < 16 * c → FirstZero s (e + (i / 16 * 768 + i % 16)) → get_or out i 0 ≡ down s x y z (e + (i / 16 * 768 + i % 16)) 8 0)
 
 -- the n bytes from place p on of the first j of m blocks of b bytes are there, and the bytes of all blocks before place p are as they were
 pub record Filled (m b p n : ℕ) (s plan old : List ℕ) (j : ℕ) (out : List ℕ) : Type 0 where
   pub size : length out ≡ m * b
   pub before : (u i : ℕ) → u < m → i < p → get_or out (u * b + i) 0 ≡ get_or old (u * b + i) 0
   pub done : (u i : ℕ) → u < j → i < n
-      → get_or out (u * b + (p + i)) 0 ≡ highest s (get_or plan (3 * u) 0) (get_or plan (3 * u + 1) 0) (get_or plan (3 * u + 2) 0) (i / 16 * 768 + i % 16) 8
+      → get_or out (u * b + (p + i)) 0 ≡ down s (get_or plan (3 * u) 0) (get_or plan (3 * u + 1) 0) (get_or plan (3 * u + 2) 0) (i / 16 * 768 + i % 16) 8 0
 
 -- where the block of the qth of the nodes starts, q from 0, and 0 past the last node
 unfoldable pub start_of : List ℕ → ℕ → ℕ → ℕ

@@ -17,26 +17,19 @@ mod sums; // sums.rt: the sums of a tile
 // How many blocks a sum is of at most.
 pub const SOURCES: usize = 12;
 
+// How many bytes of each block a tile has.
+const TILE: usize = 256;
+
 // The n bytes from place p on of each of the m blocks of out.
 fn fill_all(out: &mut [u8], m: usize, b: usize, p: usize, n: usize, s: &[u8], plan: &[u32; 768])
     requires { (m ≤ 256) × (p + n ≤ b) × (n ≤ 256) × (length out.old ≡ m * b) × (length s.now ≡ 12288) × Zeroed n s.now }
     ensures { Filled m b p n s.now plan.now out.old m out.new }
 {
-    let mut j = 0;
-    while j < m {
+    for j in 0..m {
         let a = j * b + p;
-        let e = a + n;
         let q = 3 * j;
-        bits::fill(&mut out[a..e], s, plan[q], plan[q + 1], plan[q + 2]);
-        j += 1;
+        bits::fill(&mut out[a..a + n], s, plan[q], plan[q + 1], plan[q + 2]);
     }
-}
-
-// How much of n bytes is a tile.
-fn tile_of(n: usize) -> usize
-    ensures { (result ≤ n) × (result ≤ 256) × (0 < n → 0 < result) }
-{
-    if n < 256 { n } else { 256 }
 }
 
 // Each of the m blocks of out, of b bytes, becomes the sum of the twelve blocks of t at the starts, each times its weight: block j has row j of the
@@ -49,7 +42,7 @@ fn combine(out: &mut [u8], m: usize, b: usize, t: &[u8], starts: &[usize; SOURCE
     let plan = plan::pack_all(rows, m);
     let mut p = 0;
     while p < b {
-        let n = tile_of(b - p);
+        let n = (b - p).min(TILE);
         sums::tile_sums(&mut s[..12288], t, starts, p, n);
         fill_all(out, m, b, p, n, &s[..12288], &plan);
         p += n;
@@ -61,11 +54,10 @@ fn start_of(nodes: &[u8], b: usize, q: usize) -> usize
     requires { Nodes nodes.now × (b ≤ length_limit) }
     ensures { result ≡ start_of nodes.now b q }
 {
-    if nodes.len() <= q {
-        return 0;
+    match nodes.get(q) {
+        Some(node) => (*node as usize - 1) * b,
+        None => 0,
     }
-    let before = nodes[q] - 1;
-    before as usize * b
 }
 
 fn starts_of(nodes: &[u8], b: usize) -> [usize; SOURCES]
@@ -73,10 +65,8 @@ fn starts_of(nodes: &[u8], b: usize) -> [usize; SOURCES]
     ensures { (q : ℕ) → q < source_limit → get_or result q 0 ≡ start_of nodes.now b q }
 {
     let mut r = [0usize; SOURCES];
-    let mut q = 0;
-    while q < SOURCES {
-        r[q] = start_of(nodes, b, q);
-        q += 1;
+    for (q, start) in r.iter_mut().enumerate() {
+        *start = start_of(nodes, b, q);
     }
     r
 }

@@ -26,11 +26,9 @@ pub fn pack_all(rows: &[u8], m: usize) -> [u32; 768]
         (get_or rows.now (4 * i + 2) 0) (get_or rows.now (4 * i + 3) 0) }
 {
     let mut r = [0u32; 768];
-    let mut i = 0;
-    while i < 3 * m {
+    for i in 0..3 * m {
         let q = 4 * i;
         r[i] = pack(rows[q], rows[q + 1], rows[q + 2], rows[q + 3]);
-        i += 1;
     }
     r
 }

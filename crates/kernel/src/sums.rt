@@ -34,12 +34,9 @@ fn tile_group(s: &mut [u8], t: &[u8], starts: &[usize; SOURCES], p: usize, n: us
     requires { (n ≤ 256) × (g < 3) × Sources (p + n) t.now starts.now × Summed t.now starts.now p n g 0 s.old }
     ensures { Summed t.now starts.now p n (g + 1) 0 s.new }
 {
-    let mut c = 0;
-    while 16 * c < n {
+    for c in 0..n.div_ceil(16) {
         let a = c * 768 + g * 256;
-        let e = a + 256;
-        group_sums(&mut s[a..e], t, starts, p + 16 * c, n - 16 * c, g);
-        c += 1;
+        group_sums(&mut s[a..a + 256], t, starts, p + 16 * c, n - 16 * c, g);
     }
 }
 
@@ -48,9 +45,7 @@ pub fn tile_sums(s: &mut [u8], t: &[u8], starts: &[usize; SOURCES], p: usize, n:
     requires { (length s.old ≡ 12288) × (n ≤ 256) × Sources (p + n) t.now starts.now }
     ensures { Prepared t.now starts.now p n s.new }
 {
-    let mut g = 0;
-    while g < 3 {
+    for g in 0..3 {
         tile_group(s, t, starts, p, n, g);
-        g += 1;
     }
 }

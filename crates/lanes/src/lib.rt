@@ -6,32 +6,12 @@ ghost use Rattle.blocks.specs.Blocks.{part};
 ghost use Rattle.basics.specs.Lists.{list_of};
 ghost use Rattle.lanes.specs.Lanes.{lane, chosen};
 
-use blocks::copy;
-
-// The sixteen bytes of t from a on. (By a loop of its own, so that the machine moves them at once.)
-fn read_all(t: &[u8], a: usize) -> [u8; 16]
-    requires { a + 16 ≤ length t.now }
-    ensures { result ≡ part a 16 t.now }
-{
-    let mut r = [0u8; 16];
-    let mut i = 0;
-    while i < 16 {
-        r[i] = t[a + i];
-        i += 1;
-    }
-    r
-}
-
 // The sixteen bytes into out.
 pub fn write(out: &mut [u8], bytes: [u8; 16])
     requires { length out.old ≡ 16 }
     ensures { out.new ≡ bytes }
 {
-    let mut i = 0;
-    while i < 16 {
-        out[i] = bytes[i];
-        i += 1;
-    }
+    out.copy_from_slice(&bytes);
 }
 
 // The n bytes of t from a on, but no more than 16, and zeros after them.
@@ -41,11 +21,11 @@ pub fn read(t: &[u8], a: usize, n: usize) -> [u8; 16]
 {
     let mut r = [0u8; 16];
     if n < 16 {
-        let e = a + n;
-        copy(&mut r[..n], &t[a..e]);
-        return r;
+        r[..n].copy_from_slice(&t[a..a + n]);
+    } else {
+        r.copy_from_slice(&t[a..a + 16]);
     }
-    read_all(t, a)
+    r
 }
 
 // The bytes into out from a on, as far as out goes.
@@ -55,14 +35,8 @@ pub fn put(out: &mut [u8], a: usize, bytes: [u8; 16])
         × ((i : ℕ) → i < a → get_or out.new i 0 ≡ get_or out.old i 0)
         × ((l : ℕ) → l < 16 → a + l < length out.old → get_or out.new (a + l) 0 ≡ get_or bytes l 0) }
 {
-    let n = out.len() - a;
-    if n < 16 {
-        let e = a + n;
-        copy(&mut out[a..e], &bytes[..n]);
-        return;
-    }
-    let e = a + 16;
-    write(&mut out[a..e], bytes);
+    let n = (out.len() - a).min(16);
+    out[a..a + n].copy_from_slice(&bytes[..n]);
 }
 
 // At place 16 v of s the sum of those of the four that the bits of v choose, for v from 0 to 15.
@@ -70,8 +44,7 @@ pub fn sums(s: &mut [u8], w: [u8; 16], x: [u8; 16], y: [u8; 16], z: [u8; 16])
     requires { length s.old ≡ 256 }
     ensures { s.new ≡ list_of 256 (λ i. chosen (i / 16) (get_or w (i % 16) 0) (get_or x (i % 16) 0) (get_or y (i % 16) 0) (get_or z (i % 16) 0)) }
 {
-    let mut i = 0;
-    while i < 16 {
+    for i in 0..16 {
         let a = w[i];
         let b = x[i];
         let c = y[i];
@@ -92,6 +65,5 @@ pub fn sums(s: &mut [u8], w: [u8; 16], x: [u8; 16], y: [u8; 16], z: [u8; 16])
         s[208 + i] = a ^ c ^ d;
         s[224 + i] = b ^ c ^ d;
         s[240 + i] = a ^ b ^ c ^ d;
-        i += 1;
     }
 }

@@ -15,8 +15,8 @@ overflow_mul-a c = let a = c.args in
     let h = has_in a.b a.j (length a.t.now) (sym c.has_block.ensures ∙ c.if-has_block.true) in
     record { fits = omega (arith, h.1) }
 
-pub overflow_add-e : goal.overflow_add-e
-overflow_add-e c = let a = c.args in
+pub overflow_add-result : goal.overflow_add-result
+overflow_add-result c = let a = c.args in
     let h = has_in a.b a.j (length a.t.now) (sym c.has_block.ensures ∙ c.if-has_block.true) in
     record { fits = omega (arith, h.1) }
 

@@ -30,7 +30,7 @@ slice_bounds-tile_sums-end c = sym (length-take-le 12288 c.loop-p.s (omega (arit
 pub tile_sums-requires : goal.tile_sums-requires
 tile_sums-requires c = (
   length-take-le 12288 c.loop-p.s (omega (arith, c.loop-p.invariant.1)),
-  c.tile_of-n.ensures.1,
+  omega (arith, c.min-n.ensures),
   record { twelve = c.requires.3.twelve; fits = λ q h. omega (arith, c.requires.3.fits q h) },
 )
 
@@ -44,14 +44,14 @@ pub fill_all-requires : goal.fill_all-requires
 fill_all-requires c = (
   c.requires.0,
   omega arith,
-  c.tile_of-n.ensures.1,
+  omega (arith, c.min-n.ensures),
   c.loop-p.invariant.2.size,
   whole c.tile_sums.new.s (drop 12288 c.loop-p.s) c.tile_sums.ensures.size,
   rw (take_at c.tile_sums.new.s (drop 12288 c.loop-p.s) 12288 c.tile_sums.ensures.size) (zeroed _ _ _ _ _ c.tile_sums.ensures),
 )
 
 pub loop-p-smaller : goal.loop-p-smaller
-loop-p-smaller c = omega (arith, c.tile_of-n.ensures.2 (omega arith))
+loop-p-smaller c = omega (arith, c.min-n.ensures)
 
 pub loop-p-preserved : goal.loop-p-preserved
 loop-p-preserved c = let args = c.args in
@@ -59,7 +59,7 @@ loop-p-preserved c = let args = c.args in
     let only = take_at sums (drop 12288 c.loop-p.s) 12288 c.tile_sums.ensures.size in (
       omega arith,
       rest c.loop-p.s sums c.loop-p.invariant.1 c.tile_sums.ensures.size,
-      columns-turn args.m args.b args.t.now args.starts.now args.rows.now c.loop-p.p c.tile_of-n.result sums c.pack_all-plan.result
+      columns-turn args.m args.b args.t.now args.starts.now args.rows.now c.loop-p.p c.min-n.result sums c.pack_all-plan.result
           c.loop-p.out c.fill_all.new.out c.requires.3.twelve c.requires.2 (bytes_of args.t.now c.shared_slice_known-1.given)
           (bytes_of args.rows.now c.shared_slice_known-2-1.given) c.pack_all-plan.ensures c.tile_sums.ensures
           (rw only at c.fill_all.ensures) c.loop-p.invariant.2,

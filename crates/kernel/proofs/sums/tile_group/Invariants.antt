@@ -1,10 +1,6 @@
 -- `kernel::sums::tile_group` meets its contract: after c turns the group's sums of the first c times 16 bytes are there. Assumes nothing.
-use Prim.Native.Nat.{◌<◌, ◌+◌, ◌-◌, ◌*◌}
 use Rattle.kernel.specs.Working.{Summed}
 use Rattle.kernel.proofs.sums.tile_group.Given as goal
 
 abbrev pub invariant-loop-c : goal.invariant-loop-c
-invariant-loop-c l = (16 * l.c < l.n + 16) × Summed l.t l.starts l.p l.n l.g l.c l.s
-
-abbrev pub decreases-loop-c : goal.decreases-loop-c
-decreases-loop-c l = l.n - 16 * l.c
+invariant-loop-c l = Summed l.t l.starts l.p l.n l.g l.c l.s

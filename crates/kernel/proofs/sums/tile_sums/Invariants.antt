@@ -1,10 +1,6 @@
 -- `kernel::sums::tile_sums` meets its contract: after g turns the sums of the first g groups are there. Assumes nothing.
-use Prim.Native.Nat.{◌≤◌, ◌-◌}
 use Rattle.kernel.specs.Working.{Summed}
 use Rattle.kernel.proofs.sums.tile_sums.Given as goal
 
 abbrev pub invariant-loop-g : goal.invariant-loop-g
-invariant-loop-g l = (l.g ≤ 3) × Summed l.t l.starts l.p l.n l.g 0 l.s
-
-abbrev pub decreases-loop-g : goal.decreases-loop-g
-decreases-loop-g l = 3 - l.g
+invariant-loop-g l = Summed l.t l.starts l.p l.n l.g 0 l.s

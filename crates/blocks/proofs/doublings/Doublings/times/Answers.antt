@@ -7,6 +7,7 @@ use Rattle.blocks.proofs.doublings.Doublings.times.Goals as goal
 
 pub returns : goal.returns
 unfolding times_bits
-returns c = rw (c.add_bit.ensures, c.add_bit-p1.ensures, c.add_bit-p2.ensures, c.add_bit-p3.ensures, c.add_bit-p4.ensures)
-    (rw (c.add_bit-p5.ensures, c.add_bit-p6.ensures, c.add_bit-p7.ensures, c.requires)
-    (sym (product-bits c.args.self.c0 c.args.s c.well_formed.0.1.1.0.1 (search rules))))
+returns c = let d = c.args.self.doubled in
+    rw (c.add_bit.ensures, c.add_bit-p1.ensures, c.add_bit-p2.ensures, c.add_bit-p3.ensures, c.add_bit-p4.ensures)
+    (rw (c.add_bit-p5.ensures, c.add_bit-p6.ensures, c.add_bit-p7.ensures, d.6, d.5, d.4, d.3, d.2, d.1, d.0)
+    (sym (product-bits c.args.self.c0 c.args.s (search rules) (search rules))))

@@ -1,7 +1,0 @@
--- `kernel::bits::eight_bits` meets its contract. Assumes nothing.
-use Rattle.kernel.specs.Working as Working
-use Rattle.kernel.proofs.bits.eight_bits.Goals as goal
-
-pub returns : goal.returns
-unfolding Working.highest
-returns c = rw (c.step.ensures, c.step-b1.ensures, c.step-b2.ensures, c.step-b3.ensures, c.step-b4.ensures, c.step-b5.ensures, c.step-b6.ensures, c.step-b7.ensures)
