@@ -11,7 +11,7 @@ use Rattle.blocks.specs.Blocks.{block, byte_at, table, Bytes}
 use Rattle.blocks.proofs.Tables.{byte_at-table, table-cong, table-self, table-append, get_or-block}
 use Rattle.basics.proofs.Tests.{never_both, and_left, and_right}
 use Rattle.code.specs.Code.{code_sizes, symbol, codeword, redundant, Codeword}
-use Rattle.code.specs.Calls.{code_number, encoding, decoding, is_in, some_outside, given_set}
+use Rattle.code.specs.Calls.{answer_number, encoding, decoding, is_in, some_outside, given_set}
 use Rattle.code.specs.Decode.{NodeSet, size, invertible, lowest, recovered, recovered_table}
 use Rattle.code.specs.Demand2.{EncodingMakesCodewords, HoldsCodeword, DecodingGivesBack, CallsGiveBack, NeverNoInverse}
 use Rattle.code.proofs.NodeSets.{set_of-has, length-set_of, lowest-from, lowest-has, lowest-chosen, lowest-invertible}
@@ -91,7 +91,7 @@ or-false false b e = (refl, e)
 
 -- where no node given is outside, those given are at most n
 pub is-in-most : (n : ℕ) (xs : List ℕ) (j : ℕ) → some_outside n xs ≡ false → is_in xs j ≡ true → j ≤ n
-unfolding some_outside is_in
+unfolding is_in
 is-in-most n [] j e i = absurd (never_both false i refl)
 is-in-most n (x ∷ xs) j e i =
     let (here, rest) = or-false (not (leb 1 x && leb x n)) (some_outside n xs) e in
@@ -133,8 +133,8 @@ never-no-inverse k n b nodes t out e = limits fit refl
     fit : Bool
     fit = code_sizes k n b && (eqb (length t) (n * b) && eqb (length out) (k * b))
 
-    number : code_number (decoding k n b nodes t out).answer ≡ 12
-    number = ap code_number e
+    number : answer_number (decoding k n b nodes t out).answer ≡ 12
+    number = ap answer_number e
 
     few : (r : Bool) → ltb (size (given_set nodes)) k ≡ r → fit ≡ true → some_outside n nodes ≡ false → ⊥
     few true f q o = omega (arith, rw (q, o, f) at number)

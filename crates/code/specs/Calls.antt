@@ -1,39 +1,49 @@
 -- Document 01, "Field and code": encoding and decoding on the caller's own buffers. The tests stand in the order of their numbers.
 -- Assumes nothing.
-use Rattle.std.specs.Prelude.{Bool, false, cond, ◌&&◌, ◌||◌, not, List, [], ◌∷◌, ℕ, ◌-◌, ◌*◌, eqb, leb, ltb, length}
+use Rattle.std.specs.Prelude.{Result, Ok, Err, Bool, false, cond, ◌&&◌, ◌||◌, not, List, [], ◌∷◌, ℕ, ◌-◌, ◌*◌, eqb, leb, ltb, length}
+use Rattle.std.specs.List.{list_any}
 use Rattle.code.specs.Code.{code_sizes, redundant}
 use Rattle.code.specs.Decode.{NodeSet, set_of, size, lowest, recovered_table, invertible}
-use Rattle.code.specs.declared.CodeAnswer.{CodeAnswer}
-use Rattle.code.specs.declared.CodeAnswer.TheVariants.{Accepted, OutOfLimits, OutOfRange, TooFew, NoInverse}
+use Rattle.code.specs.declared.CodeRefusal.{CodeRefusal}
+use Rattle.code.specs.declared.CodeRefusal.TheVariants.{OutOfLimits, OutOfRange, TooFew, NoInverse}
 
 -- "Numbers of the answers"
-abbrev pub code_number : CodeAnswer → ℕ
-code_number Accepted = 0
+abbrev pub code_number : CodeRefusal → ℕ
 code_number OutOfLimits = 1
 code_number OutOfRange = 2
 code_number (TooFew size) = 11
 code_number NoInverse = 12
 
+-- an accepted call's is 0
+abbrev pub answer_number : Result (Unit {0}) CodeRefusal → ℕ
+answer_number (Ok _) = 0
+answer_number (Err refusal) = code_number refusal
+
 -- a call's answer, and the buffer that it writes, after it
 pub record Coded : Type 0 where
-  pub answer : CodeAnswer
+  pub answer : Result (Unit {0}) CodeRefusal
   pub out : List ℕ
+
+abbrev pub accepted : List ℕ → Coded
+accepted out = record { answer = Ok tt; out = out }
+
+abbrev pub refused : CodeRefusal → List ℕ → Coded
+refused refusal out = record { answer = Err refusal; out = out }
 
 -- the k data blocks lent, and room for the n − k redundant blocks
 abbrev pub encoding : ℕ → ℕ → ℕ → List ℕ → List ℕ → Coded
 encoding k n b blocks out =
     cond (code_sizes k n b && (eqb (length blocks) (k * b) && eqb (length out) ((n - k) * b)))
-    (record { answer = Accepted; out = redundant k n b blocks })
-    (record { answer = OutOfLimits; out = out })
+    (accepted (redundant k n b blocks))
+    (refused OutOfLimits out)
 
 -- node j is among those given; some node given is not one of 1 to n
 unfoldable pub is_in : List ℕ → ℕ → Bool
 is_in [] j = false
 is_in (x ∷ xs) j = eqb x j || is_in xs j
 
-unfoldable pub some_outside : ℕ → List ℕ → Bool
-some_outside n [] = false
-some_outside n (x ∷ xs) = not (leb 1 x && leb x n) || some_outside n xs
+abbrev pub some_outside : ℕ → List ℕ → Bool
+some_outside n nodes = list_any (λ j. not (leb 1 j && leb j n)) nodes
 
 -- a node given twice is in the set once
 abbrev pub given_set : List ℕ → NodeSet
@@ -43,11 +53,11 @@ given_set nodes = set_of (is_in nodes)
 abbrev pub decoding : ℕ → ℕ → ℕ → List ℕ → List ℕ → List ℕ → Coded
 decoding k n b nodes blocks out =
     cond (not (code_sizes k n b && (eqb (length blocks) (n * b) && eqb (length out) (k * b))))
-    (record { answer = OutOfLimits; out = out })
+    (refused OutOfLimits out)
     (cond (some_outside n nodes)
-    (record { answer = OutOfRange; out = out })
+    (refused OutOfRange out)
     (cond (ltb (size (given_set nodes)) k)
-    (record { answer = TooFew (size (given_set nodes)); out = out })
+    (refused (TooFew (size (given_set nodes))) out)
     (cond (not (invertible k (lowest (given_set nodes))))
-    (record { answer = NoInverse; out = out })
-    (record { answer = Accepted; out = recovered_table k k b (given_set nodes) blocks }))))
+    (refused NoInverse out)
+    (accepted (recovered_table k k b (given_set nodes) blocks)))))

@@ -1,10 +1,10 @@
 -- Document 01, "Field and code", as statements on the definitions of Code.antt, Decode.antt and Calls.antt: encoding makes a codeword, and
 -- decoding gives back what was encoded, whichever k nodes are read. proofs/Demand2.antt proves them. Assumes nothing.
-use Rattle.std.specs.Prelude.{true, false, List, ◌++◌, ◌≢◌, ◌≡◌, ℕ, ◌-◌, ◌*◌, ◌≤◌, length}
+use Rattle.std.specs.Prelude.{Err, true, false, List, ◌++◌, ◌≢◌, ◌≡◌, ℕ, ◌-◌, ◌*◌, ◌≤◌, length}
 use Rattle.blocks.specs.Blocks.{block, Bytes}
 use Rattle.code.specs.Code.{code_sizes, codeword, redundant, Codeword}
-use Rattle.code.specs.Calls.{encoding, decoding, is_in, some_outside, given_set}
-use Rattle.code.specs.declared.CodeAnswer.TheVariants.{Accepted, NoInverse}
+use Rattle.code.specs.Calls.{accepted, encoding, decoding, is_in, some_outside, given_set}
+use Rattle.code.specs.declared.CodeRefusal.TheVariants.{NoInverse}
 use Rattle.code.specs.Decode.{NodeSet, has, size, lowest, recovered_table}
 
 -- the data and then their redundant blocks are the codeword of the data, and a codeword
@@ -38,8 +38,8 @@ CallsGiveBack =
     → length d ≡ k * b → length room ≡ (n - k) * b → length t ≡ n * b → length out ≡ k * b
     → some_outside n nodes ≡ false → k ≤ size (given_set nodes)
     → ((j : ℕ) → is_in nodes j ≡ true → block b j t ≡ block b j (d ++ (encoding k n b d room).out))
-    → decoding k n b nodes t out ≡ record { answer = Accepted; out = d }
+    → decoding k n b nodes t out ≡ accepted d
 
 -- answer 12 is never given: k distinct nodes always have an inverse
 abbrev pub NeverNoInverse : Type 0
-NeverNoInverse = (k n b : ℕ) (nodes t out : List ℕ) → (decoding k n b nodes t out).answer ≢ NoInverse
+NeverNoInverse = (k n b : ℕ) (nodes t out : List ℕ) → (decoding k n b nodes t out).answer ≢ Err NoInverse

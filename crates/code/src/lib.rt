@@ -1,4 +1,4 @@
-// The code: its sizes, its coefficients, sets of nodes, and the answers of encoding and decoding (which are in crate coding).
+// The code: its sizes, its coefficients, sets of nodes, and the refusals of encoding and decoding (which are in crate coding).
 #![tactic(auto)]
 
 ghost use Rattle.std.specs.Prelude.{◌≡◌, ◌≤◌};
@@ -11,27 +11,25 @@ pub mod ranges; // ranges.rt: the limits of the sizes
 pub use nodes::NodeSet;
 pub use ranges::Limits;
 
-// The answer of encoding and decoding.
-#[derive(Clone, Copy)]
-pub enum CodeAnswer {
-    Accepted,
+// Why encoding or decoding is refused.
+#[derive(Clone, Copy, PartialEq, Eq, Debug)]
+pub enum CodeRefusal {
     OutOfLimits,
     OutOfRange,
     TooFew(u8),
     NoInverse,
 }
 
-impl CodeAnswer {
-    // The number of the answer in document 01's table.
+impl CodeRefusal {
+    // The number of the refusal in document 01's table.
     pub fn number(self) -> u8
         ensures { result ≡ code_number self }
     {
         match self {
-            CodeAnswer::Accepted => 0,
-            CodeAnswer::OutOfLimits => 1,
-            CodeAnswer::OutOfRange => 2,
-            CodeAnswer::TooFew(_) => 11,
-            CodeAnswer::NoInverse => 12,
+            CodeRefusal::OutOfLimits => 1,
+            CodeRefusal::OutOfRange => 2,
+            CodeRefusal::TooFew(_) => 11,
+            CodeRefusal::NoInverse => 12,
         }
     }
 }

@@ -30,23 +30,14 @@ impl NodeSet {
     pub fn contains(self, j: usize) -> bool
         ensures { result ≡ Decode.has (node_set_of self) j }
     {
-        if j == 0 {
-            return false;
-        }
-        if NodeSet::NODES < j {
-            return false;
-        }
-        (self.bits >> (j - 1)) % 2 == 1
+        1 <= j && j <= NodeSet::NODES && (self.bits >> (j - 1)) % 2 == 1
     }
 
     // The set and node j, if it is one that a stripe can have.
     pub fn with(self, j: usize) -> Self
         ensures { node_set_of result ≡ Decode.including j (node_set_of self) }
     {
-        if j == 0 {
-            return self;
-        }
-        if NodeSet::NODES < j {
+        if j == 0 || NodeSet::NODES < j {
             return self;
         }
         let bit = 1u32 << (j - 1);
@@ -58,10 +49,7 @@ impl NodeSet {
     pub fn without(self, j: usize) -> Self
         ensures { node_set_of result ≡ Decode.excluding j (node_set_of self) }
     {
-        if j == 0 {
-            return self;
-        }
-        if NodeSet::NODES < j {
+        if j == 0 || NodeSet::NODES < j {
             return self;
         }
         let bit = 1u32 << (j - 1);
@@ -99,10 +87,7 @@ impl NodeSet {
     pub fn is_within(self, n: usize) -> bool
         ensures { result ≡ Decode.set_within n (node_set_of self) }
     {
-        if NodeSet::NODES <= n {
-            return true;
-        }
-        (self.bits % NodeSet::END) >> n == 0
+        NodeSet::NODES <= n || (self.bits % NodeSet::END) >> n == 0
     }
 
     // The members in rising order, and 0 at each place past the last.
@@ -111,13 +96,11 @@ impl NodeSet {
     {
         let mut r = [0u8; NodeSet::NODES];
         let mut n = 0;
-        let mut j = 0;
-        while j < NodeSet::NODES {
+        for j in 0..NodeSet::NODES {
             if self.contains(j + 1) {
                 r[n] = j as u8 + 1;
                 n += 1;
             }
-            j += 1;
         }
         r
     }

@@ -19,27 +19,12 @@ impl Limits {
     pub fn hold(k: usize, n: usize, b: usize) -> bool
         ensures { result ≡ code_sizes k n b }
     {
-        if k < Limits::DATA_LEAST {
+        if k < Limits::DATA_LEAST || Limits::DATA_MOST < k {
             return false;
         }
-        if Limits::DATA_MOST < k {
+        if n <= k || Limits::REDUNDANT_MOST < n - k || k < n - k {
             return false;
         }
-        if n <= k {
-            return false;
-        }
-        if Limits::REDUNDANT_MOST < n - k {
-            return false;
-        }
-        if k < n - k {
-            return false;
-        }
-        if b < 1 {
-            return false;
-        }
-        if Limits::BLOCK_MOST < b {
-            return false;
-        }
-        true
+        1 <= b && b <= Limits::BLOCK_MOST
     }
 }

@@ -1,42 +1,18 @@
 -- The nodes that decoding is given, one after another. Assumes nothing.
-use mathlib.Core.Bool.{Bool, true, false, ◌&&◌, ◌||◌, not, or_assoc, or_comm}
+use mathlib.Core.Bool.{Bool, false, ◌||◌, or_assoc, or_comm}
 use mathlib.Core.List.{List, [], ◌∷◌, ◌++◌}
 use mathlib.Core.Path.{◌≡◌, sym, ap, ◌∙◌}
 use Prim.Native.Nat.{ℕ, suc, ◌+◌, ◌≤◌, ◌<◌}
 use native.Mathlib.Numerals.{add-one}
 use native.Mathlib.Omega.{arith}
-use lib.Dec.{eqb, leb}
-use lib.ListN.{length, get_or, take, drop, drop_of_length-le}
-use lib.Seq.{drop-cons, take-suc, take_all}
-use borrow.Author.Tests.{le-leb, lt-leb}
+use lib.Dec.{eqb}
+use lib.ListN.{length, get_or, take}
+use lib.Seq.{take-suc, take_all}
 use Rattle.basics.proofs.Lists.{list_of-cong}
 use Rattle.code.specs.Decode.{set_of, including}
-use Rattle.code.specs.Calls.{is_in, some_outside, given_set}
+use Rattle.code.specs.Calls.{is_in, given_set}
 use Rattle.code.proofs.Invertible.{eqb_comm}
 use Rattle.code.proofs.NodeSets.{has-set_of}
-
--- ---- the search for a node that is none of 1 to n
-
-module _ (n : ℕ) (nodes : List ℕ) (i : ℕ) where
-  abbrev left : ℕ → Bool
-  left i = some_outside n (drop i nodes)
-
-  outside-next : i < length nodes → left i ≡ (not (leb 1 (get_or nodes i 0) && leb (get_or nodes i 0) n) || left (i + 1))
-  unfolding some_outside
-  outside-next l = rw (drop-cons nodes i 0 l, add-one i)
-
-  pub outside_low : i < length nodes → get_or nodes i 0 < 1 → left i ≡ true
-  outside_low l h = outside-next l ∙ rw (lt-leb 1 (get_or nodes i 0) h)
-
-  pub outside_high : i < length nodes → 1 ≤ get_or nodes i 0 → n < get_or nodes i 0 → left i ≡ true
-  outside_high l h1 hn = outside-next l ∙ rw (le-leb 1 (get_or nodes i 0) h1, lt-leb (get_or nodes i 0) n hn)
-
-  pub outside-none : i < length nodes → 1 ≤ get_or nodes i 0 → get_or nodes i 0 ≤ n → left i ≡ left (i + 1)
-  outside-none l h1 hn = outside-next l ∙ rw (le-leb 1 (get_or nodes i 0) h1, le-leb (get_or nodes i 0) n hn)
-
-  pub outside-end : length nodes ≤ i → left i ≡ false
-  unfolding some_outside
-  outside-end l = rw (drop_of_length-le nodes l)
 
 -- ---- the set
 

@@ -1,5 +1,5 @@
 // Blocks of a codeword from those of k of its nodes.
-ghost use Rattle.std.specs.Prelude.{true, ◌≡◌, ℕ, suc, ◌+◌, ◌*◌, ◌<◌, ◌≤◌, length, get_or};
+ghost use Rattle.std.specs.Prelude.{MatchOption, true, ◌≡◌, ℕ, suc, ◌+◌, ◌*◌, ◌<◌, ◌≤◌, length, get_or};
 ghost use Rattle.gf256.specs.Field.{IsPowers, IsLogarithms};
 ghost use Rattle.blocks.specs.Blocks.{table};
 ghost use Rattle.kernel.specs.Combine.{nth, HasBlocks, Nodes};
@@ -11,18 +11,11 @@ ghost use Rattle.coding.specs.Weights.{Apart, Rising, Recovers, Shares, restored
 use crate::weights;
 use code::{Limits, NodeSet};
 
-// The place of node j among the nodes, from 1; or 0.
-fn place_of(nodes: &[u8], j: usize) -> usize
-    ensures { (result ≤ length nodes.now) × (0 < result → nth nodes.now result ≡ j) × (result ≡ 0 → Apart nodes.now j) }
+// The place of node j among the nodes, from 0.
+fn place_of(nodes: &[u8], j: usize) -> Option<usize>
+    ensures { MatchOption result (Apart nodes.now j) (λ q. (q < length nodes.now) × (get_or nodes.now q 0 ≡ j)) }
 {
-    let mut q = 0;
-    while q < nodes.len() {
-        if nodes[q] as usize == j {
-            return q + 1;
-        }
-        q += 1;
-    }
-    0
+    nodes.iter().position(|node| *node as usize == j)
 }
 
 // The weights of the nodes' blocks in that of node j: 1 for its own, if it is one of the nodes.
@@ -37,11 +30,10 @@ fn node_row(
         × Shares nodes.now shares.now }
     ensures { Recovers nodes.now j (λ q. get_or result q 0) }
 {
-    let q = place_of(nodes, j);
-    if q == 0 {
-        return weights::recover_row(powers, logarithms, nodes, shares, j);
+    match place_of(nodes, j) {
+        Some(q) => weights::unit(q),
+        None => weights::recover_row(powers, logarithms, nodes, shares, j),
     }
-    weights::unit(q - 1)
 }
 
 // The weights of the nodes 1 to m, twelve of each.
@@ -53,13 +45,10 @@ fn fill_rows(rows: &mut [u8], m: usize, nodes: &[u8])
     let powers = gf256::powers::table();
     let logarithms = gf256::logarithms::table();
     let shares = weights::shares(&logarithms, nodes);
-    let mut j = 0;
-    while j < m {
-        let row = node_row(&powers, &logarithms, nodes, &shares, j + 1);
+    for j in 0..m {
         let a = j * Limits::DATA_MOST;
-        let e = a + Limits::DATA_MOST;
-        blocks::copy(&mut rows[a..e], &row);
-        j += 1;
+        let row = node_row(&powers, &logarithms, nodes, &shares, j + 1);
+        rows[a..a + Limits::DATA_MOST].copy_from_slice(&row);
     }
 }
 
@@ -68,8 +57,8 @@ fn recover_all(m: usize, b: usize, nodes: &[u8], blocks: &[u8], out: &mut [u8])
     requires { (m ≤ 256) × (b ≤ block_limit) × Nodes nodes.now × Rising nodes.now × HasBlocks b blocks.now nodes.now × (length out.old ≡ m * b) }
     ensures { out.new ≡ table m b (restored_byte b blocks.now nodes.now) }
 {
-    if nodes.len() == 0 {
-        blocks::clear(out);
+    if nodes.is_empty() {
+        out.fill(0);
         return;
     }
     let mut rows = [0u8; 256 * Limits::DATA_MOST];

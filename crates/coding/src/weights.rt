@@ -39,8 +39,7 @@ pub fn data_weights(k: usize, m: usize) -> [u8; Limits::REDUNDANT_MOST * Limits:
     let powers = gf256::powers::table();
     let logarithms = gf256::logarithms::table();
     let mut r = [0u8; Limits::REDUNDANT_MOST * Limits::DATA_MOST];
-    let mut i = 0;
-    while i < m * Limits::DATA_MOST {
+    for i in 0..m * Limits::DATA_MOST {
         r[i] = data_weight(
             &powers,
             &logarithms,
@@ -48,7 +47,6 @@ pub fn data_weights(k: usize, m: usize) -> [u8; Limits::REDUNDANT_MOST * Limits:
             k + i / Limits::DATA_MOST + 1,
             i % Limits::DATA_MOST,
         );
-        i += 1;
     }
     r
 }
@@ -63,10 +61,8 @@ fn span(logarithms: &[u8; 256], nodes: &[u8], a: usize, e: usize, j: usize) -> u
 {
     let t = (j - 1) as u8;
     let mut r = 0;
-    let mut l = a;
-    while l < e {
+    for l in a..e {
         r += gf256::logarithm(logarithms, (t ^ (nodes[l] - 1)) as usize);
-        l += 1;
     }
     r
 }
@@ -114,10 +110,8 @@ pub fn shares(logarithms: &[u8; 256], nodes: &[u8]) -> [usize; Limits::DATA_MOST
     ensures { Shares nodes.now result }
 {
     let mut r = [0usize; Limits::DATA_MOST];
-    let mut q = 0;
-    while q < nodes.len() {
+    for q in 0..nodes.len() {
         r[q] = share_of(logarithms, nodes, q + 1);
-        q += 1;
     }
     r
 }
@@ -140,11 +134,9 @@ pub fn recover_row(
     let k = nodes.len();
     let all = over(span(logarithms, nodes, 0, k, j), scale(logarithms, k, j));
     let mut r = [0u8; Limits::DATA_MOST];
-    let mut q = 0;
-    while q < k {
+    for q in 0..k {
         let own = gf256::logarithm(logarithms, (t ^ (nodes[q] - 1)) as usize);
         r[q] = gf256::power(powers, shares[q] + (255 - own) + all);
-        q += 1;
     }
     r
 }

@@ -1,16 +1,17 @@
 -- `coding::recovering::recover_all` meets its contract. Assumes nothing.
-use mathlib.Core.Path.{sym, ap, ◌∙◌}
-use Prim.Native.Nat.{◌*◌}
+use mathlib.Core.Path.{◌≡◌, sym, ap, ◌∙◌}
+use Prim.Native.Nat.{◌*◌, ◌≤◌}
 use native.Mathlib.Omega.{arith}
-use lib.ListN.{replicate}
+use lib.ListN.{replicate, length}
 use lib.Seq.{length-take-le}
 use Rattle.blocks.proofs.Parts.{bytes_of}
 use Rattle.coding.proofs.Restored.{nodes-chosen, recovered-rows, restored-table, restored-none}
 use Rattle.coding.proofs.recovering.recover_all.Goals as goal
 
-pub returns-then-nodes-eq0 : goal.returns-then-nodes-eq0
-returns-then-nodes-eq0 c = let args = c.args in
-    c.clear.ensures ∙ ap (λ n. replicate n 0) c.requires.5 ∙ restored-none args.m args.b args.blocks.now args.nodes.now c.if-nodes-eq0.true
+pub returns-then-is_empty : goal.returns-then-is_empty
+returns-then-is_empty c = let args = c.args in
+    let none : length args.nodes.now ≡ 0 = grind (arith, c.if-is_empty.ensures) in
+    c.fill.ensures.after (λ y e. e) ∙ ap (λ n. replicate n 0) c.requires.5 ∙ restored-none args.m args.b args.blocks.now args.nodes.now none
 
 pub slice_bounds-mix-end : goal.slice_bounds-mix-end
 slice_bounds-mix-end c = sym (length-take-le _ c.fill_rows.new.rows (omega (arith, c.fill_rows.ensures.0)))
@@ -18,9 +19,10 @@ slice_bounds-mix-end c = sym (length-take-le _ c.fill_rows.new.rows (omega (arit
 pub mix-requires : goal.mix-requires
 mix-requires c = let args = c.args in
     let pre = c.requires in
-    let rows = c.fill_rows.ensures in (
+    let rows = c.fill_rows.ensures in
+    let some : 1 ≤ length args.nodes.now = grind (arith, c.if-is_empty.ensures) in (
       pre.2,
-      omega (arith, c.if-nodes-eq0.false),
+      some,
       pre.0,
       pre.1,
       pre.5,

@@ -7,7 +7,6 @@ use Rattle.kernel.specs.Combine.{nth}
 use Rattle.code.specs.Decode as Decode
 use Rattle.blocks.proofs.Entries.{entries_none, entries-turn, untouched-turn, zeros-at}
 use Rattle.coding.proofs.Weighing.{points-apart, one_span, recover-turn}
-use borrow.Author.Rules.{rules}
 use Rattle.coding.proofs.weights.recover_row.Goals as goal
 
 pub span-requires : goal.span-requires
@@ -20,7 +19,7 @@ pub over-all-requires : goal.over-all-requires
 over-all-requires c = (omega (arith, c.requires.2.few, c.span.ensures.1), c.scale.ensures.1)
 
 pub loop-q-init : goal.loop-q-init
-loop-q-init c = (search rules, entries_none _ _ _ refl, λ l h. zeros-at 12 l)
+loop-q-init c = (entries_none _ _ _ refl, λ l h. zeros-at 12 l)
 
 pub overflow_sub-nodes : goal.overflow_sub-nodes
 overflow_sub-nodes c = c.requires.2.from c.loop-q.q (omega (arith, c.loop-q-test.true))
@@ -62,7 +61,7 @@ loop-q-preserved c = let pre = c.requires in
     ∙ recover-turn nodes pre.2 bytes j pre.4 pre.5 pre.3 q (omega (arith, inside)) _ c.logarithm-own.result c.over-all.result own.0 (pre.6.at q (omega (arith, inside)))
     own.1
     (c.over-all.ensures.0 ∙ rw (c.span.ensures.0 ∙ one_span (nth nodes) (j - 1) (length nodes) (length nodes + 1) (omega arith), c.scale.ensures.0)) in
-    (search rules, entries-turn _ _ _ _ _ (omega (arith, inside, pre.2.few)) weight c.loop-q.invariant.1, untouched-turn q c.loop-q.r _ c.loop-q.invariant.2)
+    (entries-turn _ _ _ _ _ (omega (arith, inside, pre.2.few)) weight c.loop-q.invariant.0, untouched-turn q c.loop-q.r _ c.loop-q.invariant.1)
 
 pub returns : goal.returns
-returns c = (λ q q1 qk. c.loop-q.invariant.1.done q q1 (omega arith), λ q h. c.loop-q.invariant.2 q (omega arith))
+returns c = (λ q q1 qk. c.loop-q.invariant.0.done q q1 (omega arith), λ q h. c.loop-q.invariant.1 q (omega arith))

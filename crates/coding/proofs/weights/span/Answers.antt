@@ -11,7 +11,7 @@ pub loop-l-init : goal.loop-l-init
 unfolding factors power
 loop-l-init c = let a = c.args.a in
     let none : a - a ≡ 0 = omega arith in
-    (omega arith, omega arith, omega arith, rw none)
+    (omega arith, rw none)
 
 pub overflow_sub-nodes : goal.overflow_sub-nodes
 overflow_sub-nodes c = c.requires.1.from c.loop-l.l (omega arith)
@@ -26,17 +26,15 @@ logarithm-r-requires c = let l = c.loop-l.l in
     (c.requires.0, far.0, far.1)
 
 pub overflow_add-r : goal.overflow_add-r
-overflow_add-r c = omega (arith, c.requires.1.few, c.logarithm-r.ensures.0, c.loop-l.invariant.2)
+overflow_add-r c = omega (arith, c.requires.1.few, c.logarithm-r.ensures.0, c.loop-l.invariant.0)
 
 pub loop-l-preserved : goal.loop-l-preserved
 loop-l-preserved c = let inv = c.loop-l.invariant in
     let found = c.logarithm-r.ensures in (
-      omega arith,
-      omega arith,
-      omega (arith, found.0, inv.2),
-      factors-turn c.args.nodes.now c.args.a c.loop-l.l (c.args.j - 1) c.loop-l.r c.logarithm-r.result inv.0 inv.3 found.1,
+      omega (arith, found.0, inv.0),
+      factors-turn c.args.nodes.now c.args.a c.loop-l.l (c.args.j - 1) c.loop-l.r c.logarithm-r.result (omega arith) inv.1 found.1,
     )
 
 pub returns : goal.returns
 returns c = let last : c.loop-l.l ≡ c.args.e = omega arith in
-    (rw last at c.loop-l.invariant.3, rw last at c.loop-l.invariant.2)
+    (rw last at c.loop-l.invariant.1, rw last at c.loop-l.invariant.0)

@@ -7,7 +7,4 @@ use Rattle.coding.specs.Weights.{factors}
 use Rattle.coding.proofs.weights.span.Given as goal
 
 abbrev pub invariant-loop-l : goal.invariant-loop-l
-invariant-loop-l l = (l.a ≤ l.l) × (l.l ≤ l.e) × (l.r ≤ 254 * (l.l - l.a)) × (power l.r ≡ factors (nth l.nodes) l.a (l.l - l.a) (l.j - 1))
-
-abbrev pub decreases-loop-l : goal.decreases-loop-l
-decreases-loop-l l = l.e - l.l
+invariant-loop-l l = (l.r ≤ 254 * (l.l - l.a)) × (power l.r ≡ factors (nth l.nodes) l.a (l.l - l.a) (l.j - 1))

@@ -11,7 +11,7 @@ use Rattle.code.proofs.nodes.NodeSet.members.Goals.{then-contains, else-contains
 
 pub loop-j-init : goal.loop-j-init
 unfolding members_from
-loop-j-init c = (search rules, search rules, refl, refl, lists-none 18)
+loop-j-init c = (search rules, refl, refl, lists-none 18)
 
 pub loop-j-preserved : goal.loop-j-preserved
 loop-j-preserved c = let s = node_set_of c.args.self in
@@ -23,21 +23,19 @@ loop-j-preserved c = let s = node_set_of c.args.self in
     elim c.if-contains.branch [
       | then-contains w ↦ (
         omega arith,
-        omega arith,
-        rw w.r-is (length-set r _ _ ∙ inv.2),
-        w.n-is ∙ count-in j s (omega arith) _ (told ∙ w.if-contains.true) inv.3,
-        rw w.r-is (lists-in j s _ r (omega arith) (told ∙ w.if-contains.true) inv.3 (omega arith) inv.4),
+        rw w.r-is (length-set r _ _ ∙ inv.1),
+        w.n-is ∙ count-in j s (omega arith) _ (told ∙ w.if-contains.true) inv.2,
+        rw w.r-is (lists-in j s _ r (omega arith) (told ∙ w.if-contains.true) inv.2 (omega arith) inv.3),
       )
       | else-contains w ↦ (
         omega arith,
-        omega arith,
-        rw w.r-is inv.2,
-        w.n-is ∙ count-out j s (omega arith) _ (told ∙ w.if-contains.false) inv.3,
-        rw (w.r-is, upto-out j s (omega arith) (told ∙ w.if-contains.false)) inv.4,
+        rw w.r-is inv.1,
+        w.n-is ∙ count-out j s (omega arith) _ (told ∙ w.if-contains.false) inv.2,
+        rw (w.r-is, upto-out j s (omega arith) (told ∙ w.if-contains.false)) inv.3,
       )
     ]
 
 pub returns : goal.returns
 returns c = λ q.
     let places = eighteen c.args.self in
-    c.loop-j.invariant.4 q ∙ ap (λ ms. get_or ms q 0) (upto_all c.loop-j.j (node_set_of c.args.self) (omega arith))
+    c.loop-j.invariant.3 q ∙ ap (λ ms. get_or ms q 0) (upto_all c.loop-j.j (node_set_of c.args.self) (omega arith))

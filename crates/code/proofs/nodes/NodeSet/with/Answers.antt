@@ -7,8 +7,5 @@ use Rattle.code.proofs.nodes.NodeSet.with.Goals as goal
 pub returns-then-j-eq0 : goal.returns-then-j-eq0
 returns-then-j-eq0 c = with_none c.args.self c.args.j (λ i l1 l18 e. omega arith)
 
-pub returns-then-j-gt-NODES : goal.returns-then-j-gt-NODES
-returns-then-j-gt-NODES c = let a = c.args in with_none a.self a.j (λ i l1 l18 e. omega arith)
-
 pub returns : goal.returns
 returns c = let a = c.args in with-one a.self a.j (omega arith) (omega arith) refl
