@@ -1,21 +1,21 @@
 -- What the exported functions answer. Assumes nothing.
-use Rattle.std.specs.Prelude.{cond, List, ℕ, ◌+◌, ◌*◌, eqb, length}
+use Rattle.std.specs.Prelude.{Result, Ok, Err, cond, List, ℕ, ◌+◌, ◌*◌, eqb, length}
 use Rattle.blocks.specs.Blocks.{add_times}
 use Rattle.code.specs.Calls.{Coded, code_number}
-use Rattle.code.specs.declared.CodeAnswer.{CodeAnswer}
-use Rattle.code.specs.declared.CodeAnswer.TheVariants.{Accepted, OutOfLimits, OutOfRange, TooFew, NoInverse}
+use Rattle.code.specs.declared.CodeRefusal.{CodeRefusal}
+use Rattle.code.specs.declared.CodeRefusal.TheVariants.{OutOfLimits, OutOfRange, TooFew, NoInverse}
 
--- the size that an answer gives
-abbrev pub size_in : CodeAnswer → ℕ
-size_in Accepted = 0
+-- the size that a refusal gives
+abbrev pub size_in : CodeRefusal → ℕ
+size_in (TooFew size) = size
 size_in OutOfLimits = 0
 size_in OutOfRange = 0
-size_in (TooFew size) = size
 size_in NoInverse = 0
 
 -- an answer as one number
-abbrev pub answer_of : CodeAnswer → ℕ
-answer_of a = code_number a + 256 * size_in a
+abbrev pub answer_of : Result (Unit {0}) CodeRefusal → ℕ
+answer_of (Ok _) = 0
+answer_of (Err refusal) = code_number refusal + 256 * size_in refusal
 
 -- a call's answer, and the buffer that it writes, after it
 pub record Answered : Type 0 where

@@ -8,26 +8,26 @@ ghost use Rattle.layout.specs.Layout.{home_of, card_for, node_for};
 ghost use Rattle.exports.specs.Exports.{size_in, answer_of, answered, added};
 ghost use Rattle.image.specs.Places.{length_by};
 
-use code::CodeAnswer;
+use code::CodeRefusal;
 use records::Sizes;
 
-// The size that the answer gives.
-fn size_in(a: CodeAnswer) -> u8
-    ensures { result ≡ size_in a }
+// The size that the refusal gives.
+fn size_in(refusal: CodeRefusal) -> u8
+    ensures { result ≡ size_in refusal }
 {
-    match a {
-        CodeAnswer::Accepted => 0,
-        CodeAnswer::OutOfLimits => 0,
-        CodeAnswer::OutOfRange => 0,
-        CodeAnswer::TooFew(size) => size,
-        CodeAnswer::NoInverse => 0,
+    match refusal {
+        CodeRefusal::TooFew(size) => size,
+        _ => 0,
     }
 }
 
-fn answer_of(a: CodeAnswer) -> u32
-    ensures { result ≡ answer_of a }
+fn answer_of(answer: Result<(), CodeRefusal>) -> u32
+    ensures { result ≡ answer_of answer }
 {
-    a.number() as u32 + 256 * size_in(a) as u32
+    match answer {
+        Ok(()) => 0,
+        Err(refusal) => refusal.number() as u32 + 256 * size_in(refusal) as u32,
+    }
 }
 
 // The redundant blocks of the k data blocks, into out.
@@ -83,16 +83,14 @@ pub extern "C" fn mezgaudre_add_times(dst: &mut [u8], src: &[u8], c: u8) -> u32
 pub extern "C" fn mezgaudre_block_stripe(k: usize, b: usize) -> usize
     ensures { result ≡ (home_of k b).stripe }
 {
-    let home = layout::block_home(k, b);
-    home.stripe
+    layout::block_home(k, b).stripe
 }
 
 #[unsafe(no_mangle)]
 pub extern "C" fn mezgaudre_block_position(k: usize, b: usize) -> u8
     ensures { result ≡ (home_of k b).position }
 {
-    let home = layout::block_home(k, b);
-    home.position
+    layout::block_home(k, b).position
 }
 
 #[unsafe(no_mangle)]
@@ -120,12 +118,11 @@ pub extern "C" fn mezgaudre_image_length(
 ) -> usize
     ensures { result ≡ length_by (record { k = k; n = n; b = b; failures = failures; m = m }) }
 {
-    let z = Sizes {
-        k: k,
-        n: n,
-        b: b,
-        failures: failures,
-        m: m,
-    };
-    image::length(z)
+    image::length(Sizes {
+        k,
+        n,
+        b,
+        failures,
+        m,
+    })
 }

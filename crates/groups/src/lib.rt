@@ -31,10 +31,7 @@ impl Groups {
     pub fn one(size: usize) -> Self
         ensures { result ≡ one_group size }
     {
-        if size == 0 {
-            return Groups::none();
-        }
-        if Groups::ROOM < size {
+        if size == 0 || Groups::ROOM < size {
             return Groups::none();
         }
         Groups {
@@ -47,10 +44,8 @@ impl Groups {
         ensures { group_sizes result ≡ kept sizes.now }
     {
         let mut groups = Groups::none();
-        let mut i = 0;
-        while i < sizes.len() {
-            groups = groups.with(sizes[i] as usize);
-            i += 1;
+        for size in sizes {
+            groups = groups.with(*size as usize);
         }
         groups
     }
@@ -60,11 +55,8 @@ impl Groups {
         ensures { group_sizes result
             ≡ cond (leb 1 size && leb (total (group_sizes self) + size) 8) (group_sizes self ++ (size ∷ [])) impossible }
     {
-        if size < Groups::LEAST {
-            return Groups { ends: 255 };
-        }
         let nodes = self.nodes();
-        if Groups::ROOM - nodes < size {
+        if size < Groups::LEAST || Groups::ROOM - nodes < size {
             return Groups { ends: 255 };
         }
         Groups {
@@ -109,8 +101,7 @@ impl Groups {
         let mut ends = self.ends;
         let mut left = i;
         let mut run = 0u8;
-        let mut w = Groups::ROOM;
-        while 0 < w {
+        for _w in (0..Groups::ROOM).rev() {
             run += 1;
             if ends % 2 == 1 {
                 if left == 0 {
@@ -120,7 +111,6 @@ impl Groups {
                 run = 0;
             }
             ends /= 2;
-            w -= 1;
         }
         0
     }

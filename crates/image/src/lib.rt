@@ -49,10 +49,10 @@ impl Places {
         let differences = blocks + table;
         let spare = differences + times(z.m, z.b);
         Places {
-            clients: clients,
-            blocks: blocks,
-            differences: differences,
-            spare: spare,
+            clients,
+            blocks,
+            differences,
+            spare,
             end: spare + table,
         }
     }
@@ -62,10 +62,5 @@ impl Places {
 pub fn length(z: Sizes) -> usize
     ensures { result ≡ length_by z }
 {
-    if z.within() {
-        let p = Places::of(z);
-        p.end
-    } else {
-        0
-    }
+    if z.within() { Places::of(z).end } else { 0 }
 }

@@ -7,7 +7,7 @@ ghost use Rattle.layout.specs.Layout.{home_of, is_one_of, card_for, node_for};
 use code::{Limits, NodeSet};
 
 // A position of a stripe; stripes are counted from 0, positions from 1.
-#[derive(Clone, Copy)]
+#[derive(Clone, Copy, PartialEq, Eq, Debug)]
 pub struct Home {
     pub stripe: usize,
     pub position: u8,
@@ -17,13 +17,7 @@ pub struct Home {
 pub fn block_home(k: usize, b: usize) -> Home
     ensures { result ≡ home_of k b }
 {
-    if k == 0 {
-        return Home {
-            stripe: 0,
-            position: 0,
-        };
-    }
-    if Limits::DATA_MOST < k {
+    if k == 0 || Limits::DATA_MOST < k {
         return Home {
             stripe: 0,
             position: 0,

@@ -1,11 +1,12 @@
 -- Change request C-16, the planning call: the serial limit of source document 003, section 4, and whether groups keep to it. Assumes nothing.
-use Rattle.std.specs.Prelude.{Bool, cond, ◌&&◌, List, ℕ, suc, ◌+◌, ◌-◌, ◌*◌, ◌/◌, leb, ℤ, pos, negsuc, neg_ℤ, ◌+ℤ◌, ◌*ℤ◌, ◌≤ℤ◌}
+use Rattle.std.specs.Prelude.{Result, Ok, Err, Bool, cond, ◌&&◌, List, ℕ, suc, ◌+◌, ◌-◌, ◌*◌, ◌/◌, leb, ℤ, pos, negsuc, neg_ℤ, ◌+ℤ◌, ◌*ℤ◌, ◌≤ℤ◌}
 use Rattle.std.proofs.Math.IntN.{sub_ℕ}
 use Rattle.std.specs.Int.Signed.{le_z}
-use Rattle.basics.specs.Lists.{every_of}
+use Rattle.std.specs.List.{list_all}
 use Rattle.groups.specs.Groups.{groups_fit}
-use Rattle.planning.specs.declared.PlanAnswer.{PlanAnswer}
-use Rattle.planning.specs.declared.PlanAnswer.TheVariants.{OutOfLimits, Limit}
+use Rattle.planning.specs.declared.Planned.{Planned}
+use Rattle.planning.specs.declared.PlanRefusal.{PlanRefusal}
+use Rattle.planning.specs.declared.PlanRefusal.TheVariants.{OutOfLimits}
 
 -- "n−k is 1 to 6"
 abbrev pub redundant_limit : ℕ
@@ -36,7 +37,7 @@ pub record LeastNotBelow : Type 0 where
 
 -- "whether every group is at most that limit"
 abbrev pub every_at_most : ℤ → List ℕ → Bool
-every_at_most limit sizes = every_of (λ size. le_z (pos size) limit) sizes
+every_at_most limit sizes = list_all (λ size. le_z (pos size) limit) sizes
 
 -- what is planned for: the sizes are those of the n−k redundant nodes' groups
 abbrev pub planned : ℕ → List ℕ → ℕ → Bool
@@ -44,13 +45,16 @@ planned redundant sizes stops =
     leb 1 redundant && (leb redundant redundant_limit && (groups_fit redundant sizes && leb stops stop_limit))
 
 -- "A planning call takes n−k, the group sizes and t_p .., and returns the serial limit .. It also says whether every group is at most that limit"
-unfoldable pub plan_of : ℕ → List ℕ → ℕ → PlanAnswer
+unfoldable pub plan_of : ℕ → List ℕ → ℕ → Result Planned PlanRefusal
 plan_of redundant sizes stops =
     cond (planned redundant sizes stops)
-    (Limit (serial_limit redundant stops) (every_at_most (serial_limit redundant stops) sizes))
-    OutOfLimits
+    (Ok (record { limit = serial_limit redundant stops; kept = every_at_most (serial_limit redundant stops) sizes }))
+    (Err OutOfLimits)
 
 -- "Bad sizes or t_p are answered 1"
-abbrev pub plan_number : PlanAnswer → ℕ
-plan_number OutOfLimits = 1
-plan_number (Limit limit kept) = 0
+abbrev pub refusal_number : PlanRefusal → ℕ
+refusal_number OutOfLimits = 1
+
+abbrev pub plan_number : Result Planned PlanRefusal → ℕ
+plan_number (Ok plan) = 0
+plan_number (Err refusal) = refusal_number refusal

@@ -3,27 +3,31 @@
 
 ghost use Rattle.std.specs.Prelude.{◌≡◌, ◌≤◌, ◌<◌};
 ghost use Rattle.std.proofs.Math.IntN.{sub_ℕ};
-ghost use Rattle.planning.specs.Planning.{redundant_limit, stop_limit, serial_limit, every_at_most, plan_of, plan_number};
+ghost use Rattle.planning.specs.Planning.{redundant_limit, stop_limit, serial_limit, every_at_most, plan_of, refusal_number};
 
 use groups::Groups;
 
-// What the planning call answers.
-#[derive(Clone, Copy)]
-pub enum PlanAnswer {
-    // The sizes or the number of stopped clients are outside the limits.
-    OutOfLimits,
-    // The serial limit, and whether every group is at most that.
-    Limit(i64, bool),
+// The serial limit, and whether every group is at most that.
+#[derive(Clone, Copy, PartialEq, Eq, Debug)]
+pub struct Planned {
+    pub limit: i64,
+    pub kept: bool,
 }
 
-impl PlanAnswer {
-    // The number of the answer.
+// Why there is no plan.
+#[derive(Clone, Copy, PartialEq, Eq, Debug)]
+pub enum PlanRefusal {
+    // The sizes or the number of stopped clients are outside the limits.
+    OutOfLimits,
+}
+
+impl PlanRefusal {
+    // The number of the refusal.
     pub fn number(self) -> u8
-        ensures { result ≡ plan_number self }
+        ensures { result ≡ refusal_number self }
     {
         match self {
-            PlanAnswer::OutOfLimits => 1,
-            PlanAnswer::Limit(_, _) => 0,
+            PlanRefusal::OutOfLimits => 1,
         }
     }
 }
@@ -59,33 +63,22 @@ fn lowered(raised: usize) -> i64
 fn every_at_most(limit: i64, sizes: &[u8]) -> bool
     ensures { result ≡ every_at_most limit sizes.now }
 {
-    let mut i = 0;
-    while i < sizes.len() {
-        let size = sizes[i] as i64;
-        if limit < size {
-            return false;
-        }
-        i += 1;
-    }
-    true
+    sizes.iter().all(|size| *size as i64 <= limit)
 }
 
 // The plan for groups of these sizes, of so many redundant nodes, and for so many stopped clients.
-pub fn plan(redundant: usize, sizes: &[u8], stops: usize) -> PlanAnswer
+pub fn plan(redundant: usize, sizes: &[u8], stops: usize) -> Result<Planned, PlanRefusal>
     ensures { result ≡ plan_of redundant sizes.now stops }
 {
-    if redundant == 0 {
-        return PlanAnswer::OutOfLimits;
+    if redundant == 0 || REDUNDANT_MOST < redundant {
+        return Err(PlanRefusal::OutOfLimits);
     }
-    if REDUNDANT_MOST < redundant {
-        return PlanAnswer::OutOfLimits;
-    }
-    if !Groups::of(sizes).fit(redundant) {
-        return PlanAnswer::OutOfLimits;
-    }
-    if STOPS_MOST < stops {
-        return PlanAnswer::OutOfLimits;
+    if !Groups::of(sizes).fit(redundant) || STOPS_MOST < stops {
+        return Err(PlanRefusal::OutOfLimits);
     }
     let limit = lowered(raised_limit(redundant, stops));
-    PlanAnswer::Limit(limit, every_at_most(limit, sizes))
+    Ok(Planned {
+        limit,
+        kept: every_at_most(limit, sizes),
+    })
 }

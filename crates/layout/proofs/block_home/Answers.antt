@@ -4,12 +4,11 @@ use native.Mathlib.Omega.{arith}
 use borrow.Author.Rules.{rules}
 use Rattle.layout.proofs.Ranges.{byte, home-few, home-many, home-in}
 use Rattle.layout.proofs.block_home.Goals as goal
+use Rattle.layout.proofs.block_home.Goals.{then-k-eq0-via-then-k-eq0, then-k-eq0-via-else-k-eq0+then-k-gt-DATA_MOST}
 
 pub returns-then-k-eq0 : goal.returns-then-k-eq0
-returns-then-k-eq0 c = let a = c.args in home-few a.k a.b (omega arith)
-
-pub returns-then-k-gt-DATA_MOST : goal.returns-then-k-gt-DATA_MOST
-returns-then-k-gt-DATA_MOST c = let a = c.args in home-many a.k a.b c.if-k-gt-DATA_MOST.true
+returns-then-k-eq0 c = let a = c.args in
+    elim c.then-k-eq0.branch [ then-k-eq0-via-then-k-eq0 w ↦ home-few a.k a.b (omega arith) | then-k-eq0-via-else-k-eq0+then-k-gt-DATA_MOST w ↦ home-many a.k a.b (omega arith) ]
 
 pub overflow_cast-result : goal.overflow_cast-result
 overflow_cast-result c = let a = c.args in byte a.k (omega arith) (omega arith) a.b

@@ -8,7 +8,6 @@ use native.Mathlib.Omega.{arith}
 use lib.Dec.{leb}
 use lib.ListN.{get_or, take}
 use lib.Seq.{take_all, take-suc}
-use borrow.Author.Rules.{rules}
 use Rattle.basics.specs.Lists.{every_of}
 use Rattle.groups.specs.Groups.{total}
 use Rattle.groups.specs.View.{group_sizes, kept, impossible}
@@ -16,22 +15,17 @@ use Rattle.groups.proofs.Ends.{none_of}
 use Rattle.groups.proofs.Kept.{kept-snoc}
 use Rattle.groups.proofs.Groups.of.Goals as goal
 
-pub loop-i-init : goal.loop-i-init
+pub loop-size-init : goal.loop-size-init
 unfolding kept every_of total
-loop-i-init c = (ap group_sizes c.none-groups.ensures ∙ none_of, search rules)
+loop-size-init c = ap group_sizes c.none-groups.ensures ∙ none_of
 
-pub overflow_cast-sizes : goal.overflow_cast-sizes
-overflow_cast-sizes c = omega (arith, c.shared_slice_known-in-loop-i-1.given c.loop-i.i)
-
-pub loop-i-preserved : goal.loop-i-preserved
-loop-i-preserved c = let sizes = c.args.sizes.now in
-    let i = c.loop-i.i in (
-      c.with-groups.ensures
-          ∙ (ap (λ g. cond (leb 1 (get_or sizes i 0) && leb (total g + get_or sizes i 0) 8) (g ++ (get_or sizes i 0 ∷ [])) impossible) c.loop-i.invariant.0
-          ∙ sym (rw (add-one i, take-suc sizes i 0 (omega arith)) (kept-snoc (take i sizes) (get_or sizes i 0)))),
-      omega arith,
-    )
+pub loop-size-preserved : goal.loop-size-preserved
+loop-size-preserved c = let sizes = c.args.sizes.now in
+    let i = c.loop-size.size-index in
+    c.with-groups.ensures
+    ∙ (ap (λ g. cond (leb 1 (get_or sizes i 0) && leb (total g + get_or sizes i 0) 8) (g ++ (get_or sizes i 0 ∷ [])) impossible) c.loop-size.invariant
+    ∙ sym (rw (add-one i, take-suc sizes i 0 (omega arith)) (kept-snoc (take i sizes) (get_or sizes i 0))))
 
 pub returns : goal.returns
 returns c = let sizes = c.args.sizes.now in
-    c.loop-i.invariant.0 ∙ ap kept (take_all c.loop-i.i sizes (omega arith))
+    c.loop-size.invariant ∙ ap kept (take_all c.loop-size.size-index sizes (omega arith))

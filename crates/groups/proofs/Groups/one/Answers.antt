@@ -7,13 +7,15 @@ use borrow.Author.Tests.{le-leb, lt-leb}
 use Rattle.groups.specs.View.{ends_of}
 use Rattle.groups.proofs.Ends.{one_of}
 use Rattle.groups.proofs.Groups.one.Goals as goal
+use Rattle.groups.proofs.Groups.one.Goals.{then-size-eq0-via-then-size-eq0, then-size-eq0-via-else-size-eq0+then-size-gt-ROOM}
 
 pub returns-then-size-eq0 : goal.returns-then-size-eq0
 unfolding ends_of
-returns-then-size-eq0 c = rw c.if-size-eq0.true c.none.ensures
-
-pub returns-then-size-gt-ROOM : goal.returns-then-size-gt-ROOM
-returns-then-size-gt-ROOM c = rw (lt-leb c.args.size 8 (omega arith)) c.none-then-size-gt-ROOM.ensures
+returns-then-size-eq0 c = let size = c.args.size in
+    elim c.then-size-eq0.branch [
+      | then-size-eq0-via-then-size-eq0 w ↦ rw w.if-size-eq0.true c.none.ensures
+      | then-size-eq0-via-else-size-eq0+then-size-gt-ROOM w ↦ rw (lt-leb size 8 (omega arith)) c.none.ensures
+    ]
 
 pub returns : goal.returns
 returns c = let size = c.args.size in

@@ -21,18 +21,18 @@ loop-w-init c = (refl, search rules)
 pub returns-then-left-eq0 : goal.returns-then-left-eq0
 returns-then-left-eq0 c =
     let l = c.loop-w in
-    sym (size-here l.w l.ends l.run l.left (omega arith) c.if-ends-eq1.true c.if-left-eq0.true) ∙ (l.invariant.0 ∙ is_seen c.args.self c.args.i c.requires)
+    sym (size-here l._w l.ends l.run l.left (omega arith) c.if-ends-eq1.true c.if-left-eq0.true) ∙ (l.invariant.0 ∙ is_seen c.args.self c.args.i c.requires)
 
 pub loop-w-preserved : goal.loop-w-preserved
 loop-w-preserved c =
     let l = c.loop-w in
     elim c.if-ends-eq1.branch [
       | then-ends-eq1+else-left-eq0 w ↦ (
-        rw (w.left-is, w.run-is) (sym (size-next l.w l.ends l.run l.left (omega arith) w.if-ends-eq1.true (omega arith)) ∙ l.invariant.0),
+        rw (w.left-is, w.run-is) (sym (size-next l._w l.ends l.run l.left (omega arith) w.if-ends-eq1.true (omega arith)) ∙ l.invariant.0),
         omega arith,
       )
-      | else-ends-eq1 w ↦ (rw (w.left-is, w.run-is) (sym (size-on l.w l.ends l.run l.left (omega arith) w.if-ends-eq1.false) ∙ l.invariant.0), omega arith)
+      | else-ends-eq1 w ↦ (rw (w.left-is, w.run-is) (sym (size-on l._w l.ends l.run l.left (omega arith) w.if-ends-eq1.false) ∙ l.invariant.0), omega arith)
     ]
 
 pub returns : goal.returns
-returns c = let l = c.loop-w in sym (size_none l.w l.ends l.run l.left (omega arith)) ∙ (l.invariant.0 ∙ is_seen c.args.self c.args.i c.requires)
+returns c = let l = c.loop-w in sym (size_none l._w l.ends l.run l.left (omega arith)) ∙ (l.invariant.0 ∙ is_seen c.args.self c.args.i c.requires)

@@ -6,7 +6,4 @@ use Rattle.groups.specs.View.{sizes_from}
 use Rattle.groups.proofs.Groups.size.Given as goal
 
 abbrev pub invariant-loop-w : goal.invariant-loop-w
-invariant-loop-w l = (get_or (sizes_from l.w l.ends l.run) l.left 0 ≡ get_or (sizes_from 8 l.initial.ends 0) l.i 0) × (l.run + l.w ≤ 8)
-
-abbrev pub decreases-loop-w : goal.decreases-loop-w
-decreases-loop-w l = l.w
+invariant-loop-w l = (get_or (sizes_from l._w l.ends l.run) l.left 0 ≡ get_or (sizes_from 8 l.initial.ends 0) l.i 0) × (l.run + l._w ≤ 8)

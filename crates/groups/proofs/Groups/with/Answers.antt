@@ -8,16 +8,17 @@ use Rattle.groups.specs.Groups.{total}
 use Rattle.groups.specs.View.{group_sizes, sizes_from}
 use Rattle.groups.proofs.Ends.{with-of, impossible-of, seen, few-byte}
 use Rattle.groups.proofs.Groups.with.Goals as goal
+use Rattle.groups.proofs.Groups.with.Goals.{then-size-lt-LEAST-via-then-size-lt-LEAST, then-size-lt-LEAST-via-else-size-lt-LEAST+then-nodes-size}
 
 pub returns-then-size-lt-LEAST : goal.returns-then-size-lt-LEAST
 unfolding group_sizes
-returns-then-size-lt-LEAST c = rw (lt-leb 1 c.args.size c.if-size-lt-LEAST.true) impossible-of
-
-pub returns-then-nodes-size : goal.returns-then-nodes-size
-unfolding group_sizes
-returns-then-nodes-size c = let a = c.args in
+returns-then-size-lt-LEAST c = let a = c.args in
     let n = c.nodes-nodes.ensures.0 in
-    rw (le-leb 1 a.size (omega arith), lt-leb (total (group_sizes a.self) + a.size) 8 (omega arith)) impossible-of
+    elim c.then-size-lt-LEAST.branch [
+      | then-size-lt-LEAST-via-then-size-lt-LEAST w ↦ rw (lt-leb 1 a.size (omega arith)) impossible-of
+      | then-size-lt-LEAST-via-else-size-lt-LEAST+then-nodes-size w ↦
+          rw (le-leb 1 a.size (omega arith), lt-leb (total (group_sizes a.self) + a.size) 8 (omega arith)) impossible-of
+    ]
 
 pub returns : goal.returns
 returns c = let a = c.args in
