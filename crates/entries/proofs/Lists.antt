@@ -1,50 +1,40 @@
--- What the loops over an array with a count cite: a list by its places (`list_of`) after one place more, for each kind of loop. Assumes nothing.
-use Rattle.std.specs.Prelude.{Option, None, Some}
+-- What the lists in an array with a count cite: a list by its places (`list_of`), and what is asked of its elements. Assumes nothing.
+use Rattle.std.specs.Prelude.{Option, None, Some, reverse}
+use Rattle.std.specs.List.{find, list_all, list_any}
+use Rattle.std.specs.Option.{option_map, option_or}
+use Rattle.std.proofs.lemmas.List.{get_or-take, get_or_default, map-append}
+use Rattle.std.proofs.lemmas.List.Folds.{find-append}
+use Rattle.std.proofs.lemmas.List.Recursion.{same_from_clauses}
 use mathlib.Core.Path.{◌≡◌, refl, sym, ap, ap₂, ◌∙◌}
 use mathlib.Core.Logic.{◌⊎◌, inl, inr}
 use mathlib.Core.Bool.{Bool, true, false, cond, ◌&&◌, ◌||◌, not, and_assoc, or_assoc, or-true, or-false}
-use mathlib.Core.List.{List, [], ◌∷◌, ◌++◌, map, append_assoc, append-nil}
-use Prim.Native.Nat.{ℕ, zero, suc, ◌+◌, ◌-◌, ◌≤◌, ◌<◌}
+use mathlib.Core.List.{List, [], ◌∷◌, ◌++◌, map, reverse-cons}
+use Prim.Native.Nat.{ℕ, zero, suc, ◌+◌, ◌≤◌, ◌<◌}
 use native.Mathlib.Nat.{eq-or-lt_of_le, le_of_suc-le-suc}
 use native.Mathlib.Numerals.{add-one}
+use native.Mathlib.Decide.{ℕ_discrete}
 use native.Mathlib.Omega.{arith}
 use lib.Dec.{leb}
-use lib.ListN.{length, get_or, set, length-append, length-map, length-set}
-use lib.Seq.{get_or-set_same, get_or-set_other}
-use Rattle.basics.specs.Lists.{list_of}
-use Rattle.basics.proofs.Lists.{length-list_of, list_of-cong}
+use lib.ListN.{length, get_or, set, take, length-map, length-take, length-set, get_or-map}
+use lib.Seq.{ext_get_or, get_or-set_same, get_or-set_other}
+use Rattle.basics.specs.Lists.{list_of, every_of, some_of}
+use Rattle.basics.proofs.Lists.{length-list_of, get_or-list_of, list_of-cong}
 use Rattle.entries.specs.declared.WriteId.{WriteId}
 use Rattle.entries.specs.declared.Entry as Declared
-use Rattle.entries.specs.declared.Ids.{Ids}
-use Rattle.entries.specs.declared.Entries.{Entries}
-use Rattle.entries.specs.declared.write_ids.IdTest.{IdTest}
-use Rattle.entries.specs.declared.node_entries.EntryTest.{EntryTest}
-use Rattle.entries.specs.declared.node_entries.EntryChange.{EntryChange}
-use Rattle.entries.specs.Entries.{Entry, is_recent, is_in, is_listed, is_recent_in, is_old_in, last_recent, last_recent_after, aged_entry, aged, discard, mark_old, some_due, age_limit, id_within, ids_within, entries_within}
-use Rattle.entries.specs.Lists.{id_passes, some_id_passes, passes, some_passes, is_outside, is_kept, offered, changed}
-use Rattle.entries.specs.View.{blank_id, ids_of, entry_of, blank_entry, entries_of}
+use Rattle.entries.specs.declared.Few.{Few}
+use Rattle.entries.specs.Entries.{Entry, same_id, due_age, is_recent, is_in, is_listed, is_recent_in, is_old_in, last_recent, last_recent_after, aged_entry, aged, discard, mark_old, marked_entry, some_due, age_limit, id_within, ids_within, entries_within}
+use Rattle.entries.specs.View.{few_of, blank_id, ids_of, entry_of, blank_entry, entries_of}
 
 pub list_of-more : {A : Type 0} (i : ℕ) (at : ℕ → A) → list_of (i + 1) at ≡ list_of i at ++ (at i ∷ [])
 unfolding list_of
 list_of-more i at = rw add-one
 
 -- a list is as long as its count says
-pub ids-count : (s : Ids) → length (ids_of s) ≡ s.count
+pub ids-count : {N : ℕ} (s : Few WriteId N) → length (ids_of s) ≡ s.count
 ids-count s = length-list_of s.count (λ i. get_or s.items i blank_id)
 
-pub entries-count : (s : Entries) → length (entries_of s) ≡ s.count
+pub entries-count : {N : ℕ} (s : Few Declared.Entry N) → length (entries_of s) ≡ s.count
 entries-count s = length-list_of s.count (λ i. entry_of (get_or s.items i blank_entry))
-
--- what owning an array tells of its list's length is told of the elements' machine values
-pub length-array : {A B : Type 0} (f : A → B) (l : List A) (n : ℕ) → length (map f l) ≡ n → length l ≡ n
-length-array f l n e = sym (length-map l f) ∙ e
-
-module _ {A B : Type 0} (f : A → B) (l : List A) (i n : ℕ) (e : length (map f l) ≡ n) where
-  pub below-array : i < n → i < length l
-  below-array h = omega (arith, length-array f l n e)
-
-  pub past-array : n ≤ i → length l ≤ i
-  past-array h = omega (arith, length-array f l n e)
 
 -- a store after the last of the n, where f is how an item is seen
 pub list_of-push : {A B : Type 0} (f : A → B) (l : List A) (n : ℕ) (x d : A) → n < length l
@@ -98,168 +88,170 @@ module _ {A : Type 0} {p : A → Bool} {some : List A → Bool} (s : Search p so
     pub search-hit : r ≡ true → true ≡ some (list_of n at)
     search-hit t = sym (some_at at i n h (sym e ∙ t))
 
-not-and : (a b : Bool) → not (a && b) ≡ (not a || not b)
-not-and true b = refl
-not-and false b = refl
+-- ---- a list through the first items of its array
 
-pub ids-search : (t : IdTest) → Search (id_passes t) (some_id_passes t)
-unfolding is_in ids_within
-ids-search (IdTest.Is y) = record { none = refl; more = λ x ids. refl }
-ids-search (IdTest.Outside k m) = record { none = refl; more = λ x ids. not-and (id_within k m x) (ids_within k m ids) }
+-- f of each of the first n
+pub list_of-take : {A B : Type 0} (f : A → B) (l : List A) (d : A) (n : ℕ) → n ≤ length l → list_of n (λ i. f (get_or l i d)) ≡ map f (take n l)
+list_of-take f l d n h =
+    ext_get_or (f d) _ _ (length-list_of n (λ i. f (get_or l i d)) ∙ simp (length-map, length-take) (omega arith))
+    (λ p b. let q : p < n = omega (arith, length-list_of n (λ i. f (get_or l i d))) in
+    get_or-list_of n (λ i. f (get_or l i d)) p (f d) q ∙ sym (get_or-map f (take n l) p d ∙ ap f (get_or-take n l p d q)))
 
-pub entries-search : (t : EntryTest) → Search (passes t) (some_passes t)
-unfolding is_listed is_recent_in is_old_in some_due
-entries-search (EntryTest.Of x) = record { none = refl; more = λ e es. refl }
-entries-search (EntryTest.RecentOf x) = record { none = refl; more = λ e es. refl }
-entries-search (EntryTest.OldOf x) = record { none = refl; more = λ e es. refl }
-entries-search EntryTest.Due = record { none = refl; more = λ e es. refl }
+map-same : {A : Type 0} (l : List A) → map (λ x. x) l ≡ l
+map-same [] = refl
+map-same (x ∷ l) = ap (λ y. x ∷ y) (map-same l)
 
-pub outside-search : (k m : ℕ) → Search (is_outside k m) (λ es. not (entries_within k m es))
-unfolding entries_within
-outside-search k m = record {
-  none = refl;
-  more =
-      λ e es.
-      ap not (sym (and_assoc (id_within k m e.id) (leb e.age.0 age_limit) (entries_within k m es)))
-      ∙ not-and (id_within k m e.id && leb e.age.0 age_limit) (entries_within k m es);
-}
+module _ {T : Type 0} {N : ℕ} (s : Few T N) (d : T) (h : s.count ≤ length s.items) where
+  pub few-take : few_of d s ≡ take s.count s.items
+  few-take = list_of-take (λ x. x) s.items d s.count h ∙ map-same (take s.count s.items)
 
--- ---- a loop that changes a list: an entry more, what is left of it more
+  module _ (p : T → Bool) where
+    pub any-item : list_any p (take s.count s.items) ≡ some_of p (few_of d s)
+    unfolding some_of
+    any-item = rw few-take (same_from_clauses (list_any p) (some_of p) (λ x b. p x || b) refl (λ x l. refl) (λ x l. refl) (take s.count s.items))
 
-module _ (c : EntryChange) (ids : List WriteId) where
-  -- the first entry, and the rest
-  changed-more : (e : Entry) (es : List Entry) → changed c ids (e ∷ es) ≡ offered c ids e ++ changed c ids es
-  unfolding discard mark_old
-  changed-more e es = go c
+    pub all-item : list_all p (take s.count s.items) ≡ every_of p (few_of d s)
+    unfolding every_of
+    all-item = rw few-take (same_from_clauses (list_all p) (every_of p) (λ x b. p x && b) refl (λ x l. refl) (λ x l. refl) (take s.count s.items))
+
+list_of-map : {A B : Type 0} (f : A → B) (n : ℕ) (at : ℕ → A) → list_of n (λ i. f (at i)) ≡ map f (list_of n at)
+unfolding list_of
+list_of-map f zero at = refl
+list_of-map f (suc n) at = rw (list_of-map f n at) (sym (map-append f (list_of n at) (at n ∷ [])))
+
+pub entries-map : {N : ℕ} (s : Few Declared.Entry N) → entries_of s ≡ map entry_of (few_of blank_entry s)
+entries-map s = list_of-map entry_of s.count (λ i. get_or s.items i blank_entry)
+
+module _ {N : ℕ} (s : Few Declared.Entry N) where
+  pub entries-none : few_of blank_entry s ≡ [] → entries_of s ≡ []
+  entries-none e = rw (entries-map s, e)
+
+  pub entries-push : (r : Few Declared.Entry N) (e : Declared.Entry) → few_of blank_entry r ≡ few_of blank_entry s ++ (e ∷ []) → entries_of r ≡ entries_of s ++ (entry_of e ∷ [])
+  entries-push r e q = entries-map r ∙ ap (map entry_of) q ∙ map-append entry_of (few_of blank_entry s) (e ∷ []) ∙ ap (λ l. l ++ (entry_of e ∷ [])) (sym (entries-map s))
+
+  -- some entry passes; each does
+  pub some-entry : {p : Entry → Bool} {some : List Entry → Bool} → Search p some → some_of (λ e. p (entry_of e)) (few_of blank_entry s) ≡ some (entries_of s)
+  unfolding some_of
+  some-entry {p} {some} q = rw (entries-map s) (go (few_of blank_entry s))
     where
-      kept : (b : Bool) (rest : List Entry) → cond b rest (e ∷ rest) ≡ cond (not b) (e ∷ []) [] ++ rest
-      kept true rest = refl
-      kept false rest = refl
+      go : (l : List Declared.Entry) → some_of (λ e. p (entry_of e)) l ≡ some (map entry_of l)
+      go [] = sym q.none
+      go (e ∷ l) = rw (q.more, go l)
 
-      go : (d : EntryChange) → changed d ids (e ∷ es) ≡ offered d ids e ++ changed d ids es
-      go EntryChange.Mark = refl
-      go EntryChange.Discard = kept (not (is_recent e) && is_in e.id ids) (discard ids es)
-
-  pub changed-none : changed c ids [] ≡ []
-  unfolding discard mark_old
-  changed-none = go c
+  pub entries-within : (k m : ℕ) → every_of (λ e. id_within k m (entry_of e).id && leb (entry_of e).age.0 age_limit) (few_of blank_entry s) ≡ entries_within k m (entries_of s)
+  unfolding every_of entries_within
+  entries-within k m = rw (entries-map s) (go (few_of blank_entry s))
     where
-      go : (d : EntryChange) → changed d ids [] ≡ []
-      go EntryChange.Mark = refl
-      go EntryChange.Discard = refl
+      go : (l : List Declared.Entry) → every_of (λ e. id_within k m (entry_of e).id && leb (entry_of e).age.0 age_limit) l ≡ entries_within k m (map entry_of l)
+      go [] = refl
+      go (e ∷ l) = and_assoc (id_within k m (entry_of e).id) (leb (entry_of e).age.0 age_limit) _ ∙ rw (go l)
 
-  changed-last : (es : List Entry) (e : Entry) → changed c ids (es ++ (e ∷ [])) ≡ changed c ids es ++ offered c ids e
-  changed-last [] e = changed-more e [] ∙ rw changed-none (append-nil (offered c ids e))
-  changed-last (x ∷ es) e =
-      changed-more x (es ++ (e ∷ [])) ∙ rw (changed-last es e, changed-more x es)
-      (sym (append_assoc (offered c ids x) (changed c ids es) (offered c ids e)))
+pub is_in-some : (id : WriteId) (l : List WriteId) → some_of (λ x. same_id x id) l ≡ is_in id l
+unfolding some_of is_in
+is_in-some id l = same_from_clauses (some_of (λ x. same_id x id)) (is_in id) (λ x b. same_id x id || b) refl (λ x y. refl) (λ x y. refl) l
 
-  changed-at : (i : ℕ) (at : ℕ → Entry) → changed c ids (list_of (i + 1) at) ≡ changed c ids (list_of i at) ++ offered c ids (at i)
-  changed-at i at = ap (changed c ids) (list_of-more i at) ∙ changed-last (list_of i at) (at i)
+pub ids-within : (k m : ℕ) (l : List WriteId) → every_of (id_within k m) l ≡ ids_within k m l
+unfolding every_of ids_within
+ids-within k m l = same_from_clauses (every_of (id_within k m)) (ids_within k m) (λ x b. id_within k m x && b) refl (λ x y. refl) (λ x y. refl) l
 
-  offered-few : (e : Entry) → length (offered c ids e) ≤ 1
-  offered-few e = go c
-    where
-      kept : (b : Bool) → length (cond b (e ∷ []) []) ≤ 1
-      kept true = omega arith
-      kept false = omega arith
+pub listed-search : (x : WriteId) → Search (λ e. same_id e.id x) (is_listed x)
+unfolding is_listed
+listed-search x = record { none = refl; more = λ e es. refl }
 
-      go : (d : EntryChange) → length (offered d ids e) ≤ 1
-      go EntryChange.Mark = omega arith
-      go EntryChange.Discard = kept (is_kept ids e)
+pub recent-search : (x : WriteId) → Search (λ e. is_recent e && same_id e.id x) (is_recent_in x)
+unfolding is_recent_in
+recent-search x = record { none = refl; more = λ e es. refl }
 
--- out is what the change leaves of the first i of n entries
-pub record Changed (c : EntryChange) (ids : List WriteId) (at : ℕ → Entry) (out : Entries) (i n : ℕ) : Type 0 where
-  pub within : i ≤ n
-  pub few : out.count ≤ i
-  pub is : entries_of out ≡ changed c ids (list_of i at)
+pub old-search : (x : WriteId) → Search (λ e. not (is_recent e) && same_id e.id x) (is_old_in x)
+unfolding is_old_in
+old-search x = record { none = refl; more = λ e es. refl }
 
-module _ {c : EntryChange} {ids : List WriteId} {at : ℕ → Entry} {out : Entries} {n : ℕ} where
-  pub change-start : entries_of out ≡ [] → Changed c ids at out 0 n
-  unfolding list_of
-  change-start e = record {
-    within = omega arith;
-    few = omega (arith, entries-count out, ap length e);
-    is = e ∙ sym (changed-none c ids);
-  }
+pub due-search : Search (λ e. is_recent e && leb due_age e.age.0) some_due
+unfolding some_due
+due-search = record { none = refl; more = λ e es. refl }
 
-  module _ {i : ℕ} (q : Changed c ids at out i n) where
-    pub change-on : {r : Entries} → i < n → entries_of r ≡ entries_of out ++ offered c ids (at i) → Changed c ids at r (i + 1) n
-    change-on {r} h e = record {
-      within = omega arith;
-      few =
-          omega
-          (arith, entries-count r, entries-count out, ap length e, length-append (entries_of out) (offered c ids (at i)), offered-few c ids (at i));
-      is = e ∙ rw q.is (sym (changed-at c ids i at));
-    }
+-- ---- a loop that changes each entry in its place
 
-    pub change-end : n ≤ i → entries_of out ≡ changed c ids (list_of n at)
-    change-end h = let e : i ≡ n = omega arith in rw e at q.is
-
--- ---- a tick, which ages the entries in their places
-
-aged-last : (es : List Entry) (e : Entry) → aged (es ++ (e ∷ [])) ≡ aged es ++ (aged_entry e ∷ [])
+pub aged-map : (es : List Entry) → aged es ≡ map aged_entry es
 unfolding aged
-aged-last [] e = refl
-aged-last (x ∷ es) e = ap (λ l. aged_entry x ∷ l) (aged-last es e)
+aged-map [] = refl
+aged-map (e ∷ es) = rw (aged-map es)
 
--- the first i of n entries are one tick later, the others as they were
-pub record Aged (old now : List Declared.Entry) (i n : ℕ) : Type 0 where
-  pub within : i ≤ n
-  pub room : n ≤ length now
-  pub is : list_of i (λ p. entry_of (get_or now p blank_entry)) ≡ aged (list_of i (λ p. entry_of (get_or old p blank_entry)))
-  pub others : (p : ℕ) → i ≤ p → get_or now p blank_entry ≡ get_or old p blank_entry
+pub mark_old-map : (ids : List WriteId) (es : List Entry) → mark_old ids es ≡ map (marked_entry ids) es
+unfolding mark_old
+mark_old-map ids [] = refl
+mark_old-map ids (e ∷ es) = rw (mark_old-map ids es)
 
-module _ {old : List Declared.Entry} {n : ℕ} where
-  pub age-start : n ≤ length old → Aged old old 0 n
-  unfolding list_of aged
-  age-start h = record { within = omega arith; room = h; is = refl; others = λ p l. refl }
+-- a list of entries, each changed
+pub changed-each : {N : ℕ} (f : Entry → Entry) (s r : Few Declared.Entry N) → r.count ≡ s.count
+    → ((i : ℕ) → i < s.count → entry_of (get_or r.items i blank_entry) ≡ f (entry_of (get_or s.items i blank_entry))) → entries_of r ≡ map f (entries_of s)
+changed-each f s r e q =
+    rw e (list_of-cong s.count (λ i. entry_of (get_or r.items i blank_entry)) (λ i. f (entry_of (get_or s.items i blank_entry))) q)
+    ∙ list_of-map f s.count (λ i. entry_of (get_or s.items i blank_entry))
 
-  module _ {now : List Declared.Entry} {i : ℕ} (q : Aged old now i n) where
-    pub age-on : {r : Declared.Entry} → i < n → entry_of r ≡ aged_entry (entry_of (get_or now i blank_entry)) → Aged old (set now i r) (i + 1) n
-    age-on {r} h e = record {
-      within = omega arith;
-      room = omega (arith, length-set now i r, q.room);
-      is =
-          list_of-push entry_of now i r blank_entry (omega (arith, q.room))
-          ∙ ap₂ (λ l x. l ++ (x ∷ [])) q.is (e ∙ ap (λ x. aged_entry (entry_of x)) (q.others i (omega arith)))
-          ∙ sym (ap aged (list_of-more i (λ p. entry_of (get_or old p blank_entry))) ∙ aged-last (list_of i (λ p. entry_of (get_or old p blank_entry))) (entry_of (get_or old i blank_entry)));
-      others = λ p l. get_or-set_other now i p r blank_entry (λ z. omega arith) ∙ q.others p (omega arith);
-    }
+-- the first i items are changed, the others as they were
+pub record Changed {T : Type 0} (P : T → T → Type 0) (old now : List T) (i : ℕ) : Type 0 where
+  pub places : length now ≡ length old
+  pub done : (d : T) (k : ℕ) → k < i → P (get_or old k d) (get_or now k d)
+  pub others : (d : T) (k : ℕ) → i ≤ k → get_or now k d ≡ get_or old k d
 
-    pub age-end : n ≤ i → list_of n (λ p. entry_of (get_or now p blank_entry)) ≡ aged (list_of n (λ p. entry_of (get_or old p blank_entry)))
-    age-end h = let e : i ≡ n = omega arith in rw e at q.is
+module _ {T : Type 0} {P : T → T → Type 0} {old : List T} where
+  pub change-start : Changed P old old 0
+  change-start = record { places = refl; done = λ d k h. absurd (omega arith); others = λ d k h. refl }
 
--- ---- a loop that looks for the last recent id, from the end
+  pub change-on : {now : List T} {i : ℕ} → Changed P old now i → i < length now → (x y : T) → P (get_or now i x) y → Changed P old (set now i y) (i + 1)
+  change-on {now} {i} q h x y p = record {
+    places = length-set now i y ∙ q.places;
+    done = λ d k l. by d k (ℕ_discrete k i) l;
+    others = λ d k l. get_or-set_other now i k y d (λ z. omega arith) ∙ q.others d k (omega arith);
+  }
+    where
+      by : (d : T) (k : ℕ) → Dec (k ≡ i) → k < i + 1 → P (get_or old k d) (get_or (set now i y) k d)
+      by d k (yes z) l = rw (z, get_or-set_same now i y d h, ← q.others d i (omega arith), get_or_default now i d x h) p
+      by d k (no n) l = rw (get_or-set_other now i k y d n) (q.done d k (omega arith))
 
-last-last : (p : Option WriteId) (es : List Entry) (e : Entry)
-    → last_recent_after p (es ++ (e ∷ [])) ≡ cond (is_recent e) (Some e.id) (last_recent_after p es)
+-- ---- a loop that keeps the entries that a discard leaves
+
+pub discard-last : (ids : List WriteId) (es : List Entry) (e : Entry)
+    → discard ids (es ++ (e ∷ [])) ≡ discard ids es ++ cond (not (is_recent e) && is_in e.id ids) [] (e ∷ [])
+unfolding discard
+discard-last ids [] e = refl
+discard-last ids (x ∷ es) e = rw (discard-last ids es e) (by (not (is_recent x) && is_in x.id ids))
+  where
+    by : (b : Bool) → cond b (discard ids es ++ cond (not (is_recent e) && is_in e.id ids) [] (e ∷ [])) (x ∷ (discard ids es ++ cond (not (is_recent e) && is_in e.id ids) [] (e ∷ [])))
+        ≡ cond b (discard ids es) (x ∷ discard ids es) ++ cond (not (is_recent e) && is_in e.id ids) [] (e ∷ [])
+    by true = refl
+    by false = refl
+
+pub discard-few : (ids : List WriteId) (es : List Entry) → length (discard ids es) ≤ length es
+unfolding discard
+discard-few ids [] = omega arith
+discard-few ids (x ∷ es) = by (not (is_recent x) && is_in x.id ids) (discard-few ids es)
+  where
+    by : (b : Bool) → length (discard ids es) ≤ length es → length (cond b (discard ids es) (x ∷ discard ids es)) ≤ suc (length es)
+    by true h = omega arith
+    by false h = omega arith
+
+-- ---- the last recent entry, found from the end
+
+pub last-found : (p : Option WriteId) (l : List Declared.Entry)
+    → last_recent_after p (map entry_of l) ≡ option_or (option_map (λ e. (entry_of e).id) (find (λ e. is_recent (entry_of e)) (reverse l))) p
 unfolding last_recent_after
-last-last p [] e = refl
-last-last p (x ∷ es) e = last-last (cond (is_recent x) (Some x.id) p) es e
+last-found p [] = refl
+last-found p (x ∷ l) =
+    last-found (cond (is_recent (entry_of x)) (Some (entry_of x).id) p) l
+    ∙ sym (rw (reverse-cons, find-append) (by (find (λ e. is_recent (entry_of e)) (reverse l)) (is_recent (entry_of x))))
+  where
+    by : (o : Option Declared.Entry) (b : Bool)
+        → option_or (option_map (λ e. (entry_of e).id) (option_or o (cond b (Some x) None))) p ≡ option_or (option_map (λ e. (entry_of e).id) o) (cond b (Some (entry_of x).id) p)
+    by (Some y) b = refl
+    by None true = refl
+    by None false = refl
 
--- none of the n entries is recent after the first i
-pub record Lasting (at : ℕ → Entry) (i n : ℕ) : Type 0 where
-  pub within : i ≤ n
-  pub is : last_recent (list_of n at) ≡ last_recent (list_of i at)
-
-module _ {at : ℕ → Entry} {n : ℕ} where
-  pub last-start : Lasting at n n
-  last-start = record { within = omega arith; is = refl }
-
-  module _ {i : ℕ} (q : Lasting at i n) (h : 0 < i) where
-    -- by the last of the first i
-    turn : last_recent (list_of n at) ≡ cond (is_recent (at (i - 1))) (Some (at (i - 1)).id) (last_recent (list_of (i - 1) at))
-    turn =
-        let e : i ≡ (i - 1) + 1 = omega arith in
-        q.is ∙ ap (λ l. last_recent (list_of l at)) e ∙ ap last_recent (list_of-more (i - 1) at) ∙ last-last None (list_of (i - 1) at) (at (i - 1))
-
-    pub last-hit : is_recent (at (i - 1)) ≡ true → Some (at (i - 1)).id ≡ last_recent (list_of n at)
-    last-hit e = sym (turn ∙ rw e)
-
-    pub last_on : is_recent (at (i - 1)) ≡ false → Lasting at (i - 1) n
-    last_on e = record { within = omega (arith, q.within); is = turn ∙ rw e }
-
-  pub last_end : {i : ℕ} → Lasting at i n → i ≤ 0 → None ≡ last_recent (list_of n at)
-  unfolding list_of last_recent_after
-  last_end {i} q h = let e : i ≡ 0 = omega arith in sym (q.is ∙ ap (λ l. last_recent (list_of l at)) e)
+pub last-of : (l : List Declared.Entry)
+    → option_map (λ e. (entry_of e).id) (find (λ e. is_recent (entry_of e)) (reverse l)) ≡ last_recent (map entry_of l)
+last-of l = by (option_map (λ e. (entry_of e).id) (find (λ e. is_recent (entry_of e)) (reverse l))) ∙ sym (last-found None l)
+  where
+    by : (o : Option WriteId) → o ≡ option_or o None
+    by (Some y) = refl
+    by None = refl

@@ -97,9 +97,12 @@ discard ids [] = []
 discard ids (e ∷ es) = cond (not (is_recent e) && is_in e.id ids) (discard ids es) (e ∷ discard ids es)
 
 -- "marking the finished ids old"
+abbrev pub marked_entry : List WriteId → Entry → Entry
+marked_entry ids e = record { id = e.id; mark = cond (is_in e.id ids) Old e.mark; age = e.age }
+
 unfoldable pub mark_old : List WriteId → List Entry → List Entry
 mark_old ids [] = []
-mark_old ids (e ∷ es) = record { id = e.id; mark = cond (is_in e.id ids) Old e.mark; age = e.age } ∷ mark_old ids es
+mark_old ids (e ∷ es) = marked_entry ids e ∷ mark_old ids es
 
 -- "a recent entry has age 64 or more"
 unfoldable pub some_due : List Entry → Bool

@@ -2,6 +2,7 @@
 // The types are here; their methods, each with self by value, are in a file for each list.
 #![tactic(auto)]
 
+mod fixed; // fixed.rt: a list of up to N items
 mod node_entries; // node_entries.rt: an entry, a node's list of entries
 mod write_ids; // write_ids.rt: a write id, a client's list of ids
 
@@ -54,27 +55,18 @@ pub struct Entry {
     pub age: Age,
 }
 
-impl Entries {
-    pub const LIMIT: usize = 16;
-}
-
-// A node's entries in order of arrival: the first count items.
+// A list: the first count items. A record from elsewhere may have any count, so a count within the array is asked where it is needed, and is no invariant.
 #[derive(Clone, Copy)]
-pub struct Entries {
-    pub items: [Entry; Entries::LIMIT],
+pub struct Few<T: Copy, const N: usize> {
+    pub items: [T; N],
     pub count: usize,
 }
 
-impl Ids {
-    pub const LIMIT: usize = 8;
-}
+// A node's entries in order of arrival.
+pub type Entries = Few<Entry, 16>;
 
-// A client's list of ids: the first count items.
-#[derive(Clone, Copy)]
-pub struct Ids {
-    pub items: [WriteId; Ids::LIMIT],
-    pub count: usize,
-}
+// A client's list of ids.
+pub type Ids = Few<WriteId, 8>;
 
 // Whether x is one of 1 to n.
 pub fn is_up_to(x: u8, n: usize) -> bool

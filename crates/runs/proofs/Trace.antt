@@ -8,7 +8,7 @@ use Rattle.machine.specs.Examples.{sizes}
 use Rattle.entries.specs.declared.WriteId.{WriteId}
 use Rattle.entries.specs.declared.Entry.{Entry}
 use Rattle.entries.specs.declared.Mark.TheVariants.{Recent}
-use Rattle.entries.specs.declared.Ids.{Ids}
+use Rattle.entries.specs.declared.Few.{Few}
 use Rattle.entries.specs.View.{blank_id, blank_entry}
 use Rattle.records.specs.declared.Sizes.{Sizes}
 use Rattle.records.specs.declared.Opmode.{Opmode}
@@ -43,7 +43,7 @@ node_with opmode lmode holder epoch rset es =
       entries = record { items = es ++ replicate (16 - length es) blank_entry; count = length es };
     }
 
-abbrev ids_with : List WriteId → Ids
+abbrev ids_with : List WriteId → Few WriteId 8
 ids_with ids = record { items = ids ++ replicate (8 - length ids) blank_id; count = length ids }
 
 abbrev client_with : Option Write → Phase → List WriteId → ℕ → ClientRecord

@@ -1,42 +1,18 @@
 -- Lists of recent ids, made id by id. Assumes nothing.
 use mathlib.Core.Path.{◌≡◌, refl, ap, ◌∙◌}
-use mathlib.Core.Bool.{Bool, true, false, cond, ◌&&◌, ◌||◌, not}
-use mathlib.Core.List.{List, [], ◌∷◌, ◌++◌, map, append-nil}
+use mathlib.Core.Bool.{Bool, true, false, cond, ◌&&◌, not}
+use mathlib.Core.List.{List, [], ◌∷◌, ◌++◌, append-nil}
 use Prim.Native.Nat.{ℕ, suc, ◌≤◌}
 use native.Mathlib.Omega.{arith}
 use lib.Dec.{eqb}
-use lib.ListN.{length, get_or, take}
-use Rattle.std.specs.List.{list_all, list_any}
-use Rattle.std.proofs.lemmas.List.Recursion.{same_from_clauses}
-use Rattle.basics.specs.Lists.{every_of}
-use Rattle.basics.proofs.Lists.{length-list_of}
+use lib.ListN.{length}
 use Rattle.machine.specs.Rebuild.{old_somewhere, recent_ids, at_position}
 use Rattle.entries.specs.declared.WriteId.{WriteId}
-use Rattle.entries.specs.Entries.{same_id, is_recent, is_in}
-use Rattle.entries.specs.View.{blank_id}
+use Rattle.entries.specs.Entries.{is_recent}
+use Rattle.entries.specs.declared.Few.{Few}
+use Rattle.entries.specs.View.{ids_of}
+use Rattle.entries.proofs.Lists.{ids-count}
 use Rattle.records.specs.Node.{Node}
-use Rattle.stripe.specs.declared.sets.RecentIds.{RecentIds}
-use Rattle.stripe.specs.View.{recent_of}
-use Rattle.stripe.proofs.NodeLists.{list_of-take}
-
-pub recent-count : (s : RecentIds) → length (recent_of s) ≡ s.count
-recent-count s = length-list_of s.count (λ i. get_or s.items i blank_id)
-
--- the list is the first items of the array
-pub recent-take : (s : RecentIds) → s.count ≤ length s.items → recent_of s ≡ take s.count s.items
-recent-take s h = list_of-take (λ x. x) s.items blank_id s.count h ∙ go (take s.count s.items)
-  where
-    go : (l : List WriteId) → map (λ x. x) l ≡ l
-    go [] = refl
-    go (x ∷ l) = ap (λ y. x ∷ y) (go l)
-
-pub is_in-ids : (id : WriteId) (s : RecentIds) → s.count ≤ length s.items → list_any (λ x. same_id x id) (take s.count s.items) ≡ is_in id (recent_of s)
-unfolding is_in
-is_in-ids id s h = rw (recent-take s h) (same_from_clauses (list_any (λ x. same_id x id)) (is_in id) (λ x b. same_id x id || b) refl (λ x l. refl) (λ x l. refl) (take s.count s.items))
-
-pub every-id : (p : WriteId → Bool) (s : RecentIds) → s.count ≤ length s.items → list_all p (take s.count s.items) ≡ every_of p (recent_of s)
-unfolding every_of
-every-id p s h = rw (recent-take s h) (same_from_clauses (list_all p) (every_of p) (λ x b. p x && b) refl (λ x l. refl) (λ x l. refl) (take s.count s.items))
 
 -- ---- a loop that keeps a part of each element that passes a test; `kept` is what it keeps of a list
 
@@ -70,8 +46,8 @@ module _ {A : Type 0} {test : A → Bool} {part : A → WriteId} {kept : List A 
       by true h = omega arith
       by false h = omega arith
 
-  pub keep-count : {l : List A} (r : RecentIds) → recent_of r ≡ kept l → r.count ≤ length l
-  keep-count {l} r e = omega (arith, recent-count r, ap length e, keep-few l)
+  pub keep-count : {l : List A} (r : Few WriteId 16) → ids_of r ≡ kept l → r.count ≤ length l
+  keep-count {l} r e = omega (arith, ids-count r, ap length e, keep-few l)
 
   -- o has what is kept of the elements so far; x is the next
   pub keep-start : {o : List WriteId} → o ≡ [] → o ≡ kept []

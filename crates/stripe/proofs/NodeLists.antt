@@ -6,7 +6,7 @@ use mathlib.Core.List.{List, [], ◌∷◌, ◌++◌, map}
 use Prim.Native.Nat.{ℕ, zero, suc, ◌+◌, ◌-◌, ◌≤◌, ◌<◌, max}
 use native.Mathlib.Decide.{ℕ_discrete}
 use native.Mathlib.Omega.{arith}
-use lib.ListN.{length, get_or, set, take, length-set, length-map, length-take, get_or-map, get_or-eq_default}
+use lib.ListN.{length, get_or, set, take, length-set, length-take, get_or-eq_default}
 use lib.Seq.{ext_get_or, get_or-set_same, get_or-set_other}
 use Rattle.std.specs.List.{list_all, list_any, count_by}
 use Rattle.std.proofs.lemmas.List.{get_or-take, get_or_default}
@@ -23,7 +23,7 @@ use Rattle.machine.specs.Stripe.{node_at}
 use Rattle.records.specs.declared.NodeRecord.{NodeRecord}
 use Rattle.records.specs.declared.Sizes.{Sizes}
 use Rattle.machine.specs.Rebuild.{count_init, largest_epoch}
-use Rattle.entries.proofs.Lists.{Search}
+use Rattle.entries.proofs.Lists.{list_of-take, Search}
 use Rattle.records.specs.Node.{Node, failed_node, is_init, node_within}
 use Rattle.records.specs.View.{node_of}
 use Rattle.records.proofs.Limits.{few-entries}
@@ -35,12 +35,6 @@ pub eighteen : (x : Nodes) (vs : List Val) → Is (row the_type) x vs → length
 eighteen x vs g = g.1.1.0.1.0.1
 
 -- the n nodes are seen through the first n items
-pub list_of-take : {A B : Type 0} (f : A → B) (l : List A) (d : A) (n : ℕ) → n ≤ length l → list_of n (λ i. f (get_or l i d)) ≡ map f (take n l)
-list_of-take f l d n h =
-    ext_get_or (f d) _ _ (length-list_of n (λ i. f (get_or l i d)) ∙ simp (length-map, length-take) (omega arith))
-    (λ p b. let q : p < n = omega (arith, length-list_of n (λ i. f (get_or l i d))) in
-    get_or-list_of n (λ i. f (get_or l i d)) p (f d) q ∙ sym (get_or-map f (take n l) p d ∙ ap f (get_or-take n l p d q)))
-
 pub nodes-map : (n : ℕ) (x : Nodes) → n ≤ length x.items → nodes_of n x ≡ map node_of (take n x.items)
 nodes-map n x h = list_of-take node_of x.items blank_record n h
 

@@ -19,7 +19,8 @@ use Rattle.records.specs.Node.{is_norm}
 use Rattle.stripe.specs.declared.nodes.Nodes.{Nodes}
 use Rattle.stripe.specs.declared.sets.Recents.{Recents}
 use Rattle.stripe.specs.Sets.{fits_beside, ids_at, Knows}
-use Rattle.stripe.specs.View.{record_at, nodes_of, recent_of}
+use Rattle.stripe.specs.View.{record_at, nodes_of}
+use Rattle.entries.specs.View.{ids_of}
 use Rattle.stripe.proofs.IdLists.{recent-keep, keep-count}
 use Rattle.stripe.proofs.NodeLists.{node-item}
 
@@ -90,7 +91,7 @@ module _ {n : ℕ} {x : Nodes} {known : Recents} (k : Knows n x known) where
 
   -- the redundant member r, and node i + 1 beside it
   pub beside-is : (z : Sizes) (r i : ℕ) → 1 ≤ r → r ≤ n → i < n
-      → (is_norm (record_at x i).opmode && fits_beside z.k (i + 1) (recent_of (ids_at known i)) (recent_of (ids_at known (r - 1))))
+      → (is_norm (record_at x i).opmode && fits_beside z.k (i + 1) (ids_of (ids_at known i)) (ids_of (ids_at known (r - 1))))
       ≡ (is_norm (node_at (nodes_of n x) (suc i)).opmode && fits z (nodes_of n x) r (suc i))
   beside-is z r i r1 rn h =
       let e : suc (r - 1) ≡ r = omega arith in

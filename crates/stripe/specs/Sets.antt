@@ -9,9 +9,10 @@ use Rattle.records.specs.declared.Sizes.{Sizes}
 use Rattle.records.specs.Node.{Node, is_norm, is_recons, is_init}
 use Rattle.records.specs.Sizes.{node_limit}
 use Rattle.stripe.specs.declared.nodes.Nodes.{Nodes}
-use Rattle.stripe.specs.declared.sets.RecentIds.{RecentIds}
+use Rattle.entries.specs.declared.Few.{Few}
+use Rattle.entries.specs.View.{ids_of}
 use Rattle.stripe.specs.declared.sets.Recents.{Recents}
-use Rattle.stripe.specs.View.{nodes_of, recent_of, Counted}
+use Rattle.stripe.specs.View.{nodes_of, Counted}
 
 -- node j beside a redundant member, by the recent ids of both
 abbrev pub fits_beside : ℕ → ℕ → List WriteId → List WriteId → Bool
@@ -27,13 +28,13 @@ abbrev pub larger : Sizes → List Node → ℕ → NodeSet → NodeSet
 larger z nodes r best = cond (is_norm (node_at nodes r).opmode && ltb (size best) (size (besides z nodes r))) (besides z nodes r) best
 
 -- r has the recent ids of each of the n nodes
-abbrev pub blank_ids : RecentIds
+abbrev pub blank_ids : Few WriteId 16
 blank_ids = record { items = []; count = 0 }
 
-abbrev pub ids_at : Recents → ℕ → RecentIds
+abbrev pub ids_at : Recents → ℕ → Few WriteId 16
 ids_at r i = get_or r.items i blank_ids
 
 pub record Knows (n : ℕ) (x : Nodes) (r : Recents) : Type 0 where
   pub nodes : n ≤ node_limit
   pub counted : Counted n x
-  pub ids : (i : ℕ) → i < n → recent_of (ids_at r i) ≡ f (nodes_of n x) (suc i)
+  pub ids : (i : ℕ) → i < n → ids_of (ids_at r i) ≡ f (nodes_of n x) (suc i)

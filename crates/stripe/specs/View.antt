@@ -2,15 +2,12 @@
 use Rattle.std.specs.Prelude.{List, [], ℕ, ◌≤◌, ◌<◌, get_or, None}
 use Rattle.basics.specs.Lists.{list_of}
 use Rattle.entries.specs.Entries.{entry_limit}
-use Rattle.entries.specs.declared.WriteId.{WriteId}
-use Rattle.entries.specs.View.{blank_id}
 use Rattle.records.specs.declared.NodeRecord.{NodeRecord}
 use Rattle.records.specs.declared.Opmode.TheVariants.{Norm}
 use Rattle.records.specs.declared.Lmode.TheVariants.{Unl}
 use Rattle.records.specs.Node.{Node}
 use Rattle.records.specs.View.{node_of}
 use Rattle.stripe.specs.declared.nodes.Nodes.{Nodes}
-use Rattle.stripe.specs.declared.sets.RecentIds.{RecentIds}
 
 -- what stands past the last item of an array
 abbrev pub blank_record : NodeRecord
@@ -35,7 +32,3 @@ nodes_of n x = list_of n (λ i. node_of (record_at x i))
 -- the entries of the n records are within their arrays
 pub record Counted (n : ℕ) (x : Nodes) : Type 0 where
   pub few : (i : ℕ) → i < n → (record_at x i).entries.count ≤ entry_limit
-
--- a node's recent ids
-abbrev pub recent_of : RecentIds → List WriteId
-recent_of s = list_of s.count (λ i. get_or s.items i blank_id)

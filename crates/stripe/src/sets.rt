@@ -6,24 +6,20 @@ ghost use Rattle.machine.specs.Stripe.{node_at};
 ghost use Rattle.basics.specs.Lists.{every_of};
 ghost use Rattle.machine.specs.Rebuild.{old_somewhere, recent_ids, at_position, same_ids, all_data, besides, largest, resumed, picked_set, needed_size};
 ghost use Rattle.entries.specs.Entries.{entry_limit, is_recent, is_in};
-ghost use Rattle.entries.specs.View.{entry_of, entries_of};
+ghost use Rattle.entries.specs.View.{entry_of, entries_of, ids_of};
 ghost use Rattle.records.specs.Node.{is_norm};
 ghost use Rattle.records.specs.View.{node_of};
 ghost use Rattle.records.specs.Sizes.{node_limit};
 ghost use Rattle.stripe.specs.Sets.{fits_beside, is_resumed, larger, Knows};
-ghost use Rattle.stripe.specs.View.{recent_of, nodes_of, Counted};
+ghost use Rattle.stripe.specs.View.{nodes_of, Counted};
 
 use crate::nodes::Nodes;
 use code::NodeSet;
-use entries::{Entries, Entry, WriteId, WriteNumber};
+use entries::{Entries, Entry, Few, WriteId};
 use records::{NodeRecord, Opmode, Sizes};
 
-// Recent ids of a node, without those that are old at a NORM node: the first count items.
-#[derive(Clone, Copy)]
-pub struct RecentIds {
-    pub items: [WriteId; Entries::LIMIT],
-    pub count: usize,
-}
+// Recent ids of a node, without those that are old at a NORM node.
+type RecentIds = Few<WriteId, 16>;
 
 // The recent ids of every node: those of node j are item j - 1.
 #[derive(Clone, Copy)]
@@ -31,82 +27,51 @@ pub struct Recents {
     pub items: [RecentIds; Sizes::NODES],
 }
 
-impl RecentIds {
-    fn none() -> Self
-        ensures { recent_of result ≡ [] }
-    {
-        let id = WriteId {
-            client: 0,
-            position: 0,
-            number: WriteNumber(0),
-        };
-        RecentIds {
-            items: [id; Entries::LIMIT],
-            count: 0,
+// Whether each id is among the others.
+fn are_among(ids: RecentIds, others: RecentIds) -> bool
+    requires { (ids.count ≤ entry_limit) × (others.count ≤ entry_limit) }
+    ensures { result ≡ every_of (λ x. is_in x (ids_of others)) (ids_of ids) }
+{
+    ids.all(|id| others.has(id))
+}
+
+// Whether both lists have the same ids.
+fn are_same(ids: RecentIds, others: RecentIds) -> bool
+    requires { (ids.count ≤ entry_limit) × (others.count ≤ entry_limit) }
+    ensures { result ≡ same_ids (ids_of ids) (ids_of others) }
+{
+    are_among(ids, others) && are_among(others, ids)
+}
+
+// The ids of position i.
+fn at_position(ids: RecentIds, i: usize) -> RecentIds
+    requires { ids.count ≤ entry_limit }
+    ensures { ids_of result ≡ at_position i (ids_of ids) }
+{
+    let mut out = RecentIds::none();
+    for id in &ids.items[..ids.count] {
+        if id.position as usize == i {
+            out = out.push(*id);
         }
     }
-
-    fn push(mut self, id: WriteId) -> Self
-        requires { self.count < entry_limit }
-        ensures { recent_of result ≡ recent_of self ++ (id ∷ []) }
-    {
-        self.items[self.count] = id;
-        self.count += 1;
-        self
-    }
-
-    fn has(self, id: WriteId) -> bool
-        requires { self.count ≤ entry_limit }
-        ensures { result ≡ is_in id (recent_of self) }
-    {
-        self.items[..self.count].iter().any(|other| other.same(id))
-    }
-
-    // Whether each id is among the others.
-    fn is_among(self, others: RecentIds) -> bool
-        requires { (self.count ≤ entry_limit) × (others.count ≤ entry_limit) }
-        ensures { result ≡ every_of (λ x. is_in x (recent_of others)) (recent_of self) }
-    {
-        self.items[..self.count].iter().all(|id| others.has(*id))
-    }
-
-    // Whether both lists have the same ids.
-    fn same(self, others: RecentIds) -> bool
-        requires { (self.count ≤ entry_limit) × (others.count ≤ entry_limit) }
-        ensures { result ≡ same_ids (recent_of self) (recent_of others) }
-    {
-        self.is_among(others) && others.is_among(self)
-    }
-
-    fn at_position(self, i: usize) -> Self
-        requires { self.count ≤ entry_limit }
-        ensures { recent_of result ≡ at_position i (recent_of self) }
-    {
-        let mut out = RecentIds::none();
-        for id in &self.items[..self.count] {
-            if id.position as usize == i {
-                out = out.push(*id);
-            }
-        }
-        out
-    }
+    out
 }
 
 // Whether a node with its own recent ids fits beside a redundant member with theirs.
 fn fits(own: RecentIds, theirs: RecentIds, k: usize, j: usize) -> bool
     requires { (own.count ≤ entry_limit) × (theirs.count ≤ entry_limit) }
-    ensures { result ≡ fits_beside k j (recent_of own) (recent_of theirs) }
+    ensures { result ≡ fits_beside k j (ids_of own) (ids_of theirs) }
 {
     if j <= k {
-        own.same(theirs.at_position(j))
+        are_same(own, at_position(theirs, j))
     } else {
-        own.same(theirs)
+        are_same(own, theirs)
     }
 }
 
 fn is_beside(node: NodeRecord, own: RecentIds, theirs: RecentIds, k: usize, j: usize) -> bool
     requires { (own.count ≤ entry_limit) × (theirs.count ≤ entry_limit) }
-    ensures { result ≡ (is_norm node.opmode && fits_beside k j (recent_of own) (recent_of theirs)) }
+    ensures { result ≡ (is_norm node.opmode && fits_beside k j (ids_of own) (ids_of theirs)) }
 {
     node.opmode.is_norm() && fits(own, theirs, k, j)
 }
@@ -131,7 +96,7 @@ impl Nodes {
 
     fn recent_ids(self, n: usize, entries: Entries) -> RecentIds
         requires { (n ≤ node_limit) × (Counted n self × (entries.count ≤ entry_limit)) }
-        ensures { recent_of result ≡ recent_ids (nodes_of n self) (entries_of entries) }
+        ensures { ids_of result ≡ recent_ids (nodes_of n self) (entries_of entries) }
     {
         let mut out = RecentIds::none();
         for e in &entries.items[..entries.count] {

@@ -2,9 +2,10 @@
 use Prim.Native.Nat.{suc}
 use Rattle.machine.specs.Rebuild.{f}
 use Rattle.stripe.specs.Sets.{blank_ids}
-use Rattle.stripe.specs.View.{nodes_of, recent_of}
+use Rattle.stripe.specs.View.{nodes_of}
+use Rattle.entries.specs.View.{ids_of}
 use Rattle.stripe.proofs.Loops.{Stored}
 use Rattle.stripe.proofs.nodes.Nodes.recents.Given as goal
 
 abbrev pub invariant-loop-i : goal.invariant-loop-i
-invariant-loop-i l = Stored recent_of blank_ids (λ p. f (nodes_of l.n l.self) (suc p)) l.initial.items l.items 0 l.i l.n
+invariant-loop-i l = Stored ids_of blank_ids (λ p. f (nodes_of l.n l.self) (suc p)) l.initial.items l.items 0 l.i l.n
