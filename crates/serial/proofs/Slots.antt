@@ -1,28 +1,24 @@
 -- A list as its count and its slots, blank past the count: what is in a slot, and a buffer that is filled slot by slot. One law for the lists of every
 -- kind of item. Assumes nothing.
-use mathlib.Core.Bool.{cond}
 use mathlib.Core.Path.{◌≡◌, refl, sym, ap, ◌∙◌}
 use mathlib.Core.List.{List, [], ◌∷◌, ◌++◌}
 use Prim.Native.Nat.{ℕ, ◌+◌, ◌*◌, ◌≤◌, ◌<◌}
 use native.Mathlib.Nat.{zero-mul, suc-mul}
 use native.Mathlib.Numerals.{add-one}
-use native.Mathlib.Decide.{dec_lt}
 use native.Mathlib.Omega.{arith}
-use lib.Dec.{ltb}
 use lib.ListN.{length, get_or, get_or-eq_default}
 use Rattle.basics.specs.Lists.{list_of}
-use borrow.Author.Tests.{lt-ltb, le-ltb}
 use Rattle.basics.proofs.Lists.{length-list_of, get_or-list_of}
 use Rattle.octets.specs.Octets.{joined, Put}
 use Rattle.octets.proofs.Filling.{Filled, fill-item, full}
 
 -- an item below the count, the blank past it
-pub slot_of : {A : Type 0} (n : ℕ) (g : ℕ → A) (d : A) (i : ℕ) → cond (ltb i n) (g i) d ≡ get_or (list_of n g) i d
-slot_of n g d i = by (dec_lt i n)
-  where
-    by : Dec (i < n) → cond (ltb i n) (g i) d ≡ get_or (list_of n g) i d
-    by (yes l) = rw (lt-ltb i n l) (sym (get_or-list_of n g i d l))
-    by (no l) = rw (le-ltb i n (omega (arith, l))) (sym (get_or-eq_default (list_of n g) d (omega (arith, length-list_of n g))))
+module _ {A : Type 0} (n : ℕ) (g : ℕ → A) (d : A) (i : ℕ) where
+  pub slot-below : i < n → g i ≡ get_or (list_of n g) i d
+  slot-below h = sym (get_or-list_of n g i d h)
+
+  pub slot-past : n ≤ i → d ≡ get_or (list_of n g) i d
+  slot-past h = sym (get_or-eq_default (list_of n g) d (omega (arith, length-list_of n g)))
 
 module _ {A : Type 0} (w limit : ℕ) (bytes : A → List ℕ) (d : A) (xs : List A) where
   -- the count and the first i slots are in the buffer

@@ -15,10 +15,7 @@ use records::{ClientRecord, Phase, Write};
 fn previous_tag(p: Option<WriteId>) -> u8
     ensures { result ≡ previous_tag p }
 {
-    match p {
-        None => 0,
-        Some(_) => 1,
-    }
+    p.is_some() as u8
 }
 
 // Blank where there is none.
@@ -32,13 +29,10 @@ fn previous_id(p: Option<WriteId>) -> WriteId
 fn write_bytes(w: Write) -> [u8; 22]
     ensures { result ≡ 1 ∷ write_bytes (write_of w) }
 {
-    let id = w.id;
-    let previous = w.previous;
-    let done = w.done;
-    let i = id_bytes(id);
-    let p = id_bytes(previous_id(previous));
+    let i = id_bytes(w.id);
+    let p = id_bytes(previous_id(w.previous));
     let e = word_bytes(w.epoch.0);
-    let d = word_bytes(done.first_bits(NodeSet::NODES));
+    let d = word_bytes(w.done.first_bits(NodeSet::NODES));
     [
         1,
         i[0],
@@ -47,7 +41,7 @@ fn write_bytes(w: Write) -> [u8; 22]
         i[3],
         i[4],
         i[5],
-        previous_tag(previous),
+        previous_tag(w.previous),
         p[0],
         p[1],
         p[2],
@@ -102,16 +96,12 @@ pub fn client_bytes(x: ClientRecord) -> [u8; 135]
     requires { (x.finished.count ≤ finished_limit) × (x.moved.count ≤ finished_limit) × (length (remembered (rebuild_of x.phase)) ≤ node_limit) }
     ensures { result ≡ client_bytes (client_of x) }
 {
-    let hand = x.hand;
-    let phase = x.phase;
-    let finished = x.finished;
-    let moved = x.moved;
-    let h = hand_bytes(hand);
-    let p = rebuild_bytes(phase);
+    let h = hand_bytes(x.hand);
+    let p = rebuild_bytes(x.phase);
     let n = word_bytes(x.next.0);
     let r = [x.round, n[0], n[1], n[2], n[3]];
-    let f = ids_bytes(finished);
-    let m = ids_bytes(moved);
+    let f = ids_bytes(x.finished);
+    let m = ids_bytes(x.moved);
     let mut out = [0u8; 135];
     put(&mut out, 0, &h);
     put(&mut out, 22, &p);

@@ -1,5 +1,5 @@
 // Write ids, and a client's list of them.
-ghost use Rattle.std.specs.Prelude.{cond, ◌≡◌, ◌≤◌, ltb};
+ghost use Rattle.std.specs.Prelude.{◌≡◌, ◌≤◌};
 ghost use Rattle.entries.specs.Entries.{finished_limit};
 ghost use Rattle.entries.specs.View.{blank_id, ids_of};
 ghost use Rattle.image.specs.Records.{id_bytes, ids_bytes};
@@ -24,16 +24,6 @@ pub(crate) fn id_bytes(x: WriteId) -> [u8; 6]
     [x.client, x.position, n[0], n[1], n[2], n[3]]
 }
 
-// The id of slot i, of which so many have a meaning; blank past them.
-fn id_in(x: WriteId, i: usize, count: usize) -> WriteId
-    ensures { result ≡ cond (ltb i count) x blank_id }
-{
-    if i < count {
-        return x;
-    }
-    blank_id()
-}
-
 // The count, and the slots.
 pub(crate) fn ids_bytes(s: Ids) -> [u8; 49]
     requires { s.count ≤ finished_limit }
@@ -41,12 +31,9 @@ pub(crate) fn ids_bytes(s: Ids) -> [u8; 49]
 {
     let mut out = [0u8; 49];
     out[0] = s.count as u8;
-    let mut i = 0;
-    while i < Ids::LIMIT {
-        let x = s.items[i];
-        let b = id_bytes(id_in(x, i, s.count));
-        put(&mut out, 1 + i * 6, &b);
-        i += 1;
+    for i in 0..Ids::LIMIT {
+        let x = if i < s.count { s.items[i] } else { blank_id() };
+        put(&mut out, 1 + i * 6, &id_bytes(x));
     }
     out
 }

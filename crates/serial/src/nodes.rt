@@ -1,5 +1,5 @@
 // A node's record.
-ghost use Rattle.std.specs.Prelude.{cond, ◌≡◌, ◌≤◌, ltb};
+ghost use Rattle.std.specs.Prelude.{◌≡◌, ◌≤◌};
 ghost use Rattle.entries.specs.Entries.{entry_limit, new_entry};
 ghost use Rattle.entries.specs.View.{blank_id, entry_of, entries_of};
 ghost use Rattle.records.specs.View.{node_of};
@@ -13,31 +13,19 @@ use records::{Lmode, NodeRecord, Opmode};
 fn mark_byte(mark: Mark) -> u8
     ensures { result ≡ mark_byte mark }
 {
-    match mark {
-        Mark::Recent => 0,
-        Mark::Old => 1,
-    }
+    mark as u8
 }
 
 fn opmode_byte(opmode: Opmode) -> u8
     ensures { result ≡ opmode_byte opmode }
 {
-    match opmode {
-        Opmode::Norm => 0,
-        Opmode::Recons => 1,
-        Opmode::Init => 2,
-    }
+    opmode as u8
 }
 
 fn lmode_byte(lmode: Lmode) -> u8
     ensures { result ≡ lmode_byte lmode }
 {
-    match lmode {
-        Lmode::Unl => 0,
-        Lmode::L0 => 1,
-        Lmode::L1 => 2,
-        Lmode::Exp => 3,
-    }
+    lmode as u8
 }
 
 fn holder_byte(holder: Option<u8>) -> u8
@@ -49,7 +37,6 @@ fn holder_byte(holder: Option<u8>) -> u8
 fn entry_bytes(e: Entry) -> [u8; 8]
     ensures { result ≡ entry_bytes (entry_of e) }
 {
-    let mark = e.mark;
     let n = word_bytes(e.number.0);
     [
         e.client,
@@ -58,7 +45,7 @@ fn entry_bytes(e: Entry) -> [u8; 8]
         n[1],
         n[2],
         n[3],
-        mark_byte(mark),
+        mark_byte(e.mark),
         e.age.0,
     ]
 }
@@ -75,16 +62,6 @@ fn blank_entry() -> Entry
     }
 }
 
-// The entry of slot i, of which so many have a meaning; blank past them. It is handed the entry and not the list, which would be copied for each slot.
-fn entry_in(e: Entry, i: usize, count: usize) -> Entry
-    ensures { entry_of result ≡ cond (ltb i count) (entry_of e) (new_entry blank_id) }
-{
-    if i < count {
-        return e;
-    }
-    blank_entry()
-}
-
 // The count, and the slots.
 fn entries_bytes(s: Entries) -> [u8; 129]
     requires { s.count ≤ entry_limit }
@@ -92,12 +69,13 @@ fn entries_bytes(s: Entries) -> [u8; 129]
 {
     let mut out = [0u8; 129];
     out[0] = s.count as u8;
-    let mut i = 0;
-    while i < Entries::LIMIT {
-        let e = s.items[i];
-        let b = entry_bytes(entry_in(e, i, s.count));
-        put(&mut out, 1 + i * 8, &b);
-        i += 1;
+    for i in 0..Entries::LIMIT {
+        let e = if i < s.count {
+            s.items[i]
+        } else {
+            blank_entry()
+        };
+        put(&mut out, 1 + i * 8, &entry_bytes(e));
     }
     out
 }
@@ -106,17 +84,12 @@ pub fn node_bytes(x: NodeRecord) -> [u8; 140]
     requires { x.entries.count ≤ entry_limit }
     ensures { result ≡ node_bytes (node_of x) }
 {
-    let opmode = x.opmode;
-    let lmode = x.lmode;
-    let holder = x.holder;
-    let rset = x.rset;
-    let entries = x.entries;
     let e = word_bytes(x.epoch.0);
-    let s = word_bytes(rset.first_bits(NodeSet::NODES));
+    let s = word_bytes(x.rset.first_bits(NodeSet::NODES));
     let head = [
-        opmode_byte(opmode),
-        lmode_byte(lmode),
-        holder_byte(holder),
+        opmode_byte(x.opmode),
+        lmode_byte(x.lmode),
+        holder_byte(x.holder),
         e[0],
         e[1],
         e[2],
@@ -126,7 +99,7 @@ pub fn node_bytes(x: NodeRecord) -> [u8; 140]
         s[2],
         s[3],
     ];
-    let list = entries_bytes(entries);
+    let list = entries_bytes(x.entries);
     let mut out = [0u8; 140];
     put(&mut out, 0, &head);
     put(&mut out, 11, &list);

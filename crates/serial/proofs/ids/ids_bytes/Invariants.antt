@@ -1,5 +1,4 @@
 -- The count stands in the buffer's first byte, and the first i ids after it. Assumes nothing.
-use Prim.Native.Nat.{◌-◌}
 use Rattle.entries.specs.Entries.{finished_limit}
 use Rattle.entries.specs.View.{blank_id, ids_of}
 use Rattle.image.specs.Records.{id_bytes}
@@ -8,6 +7,3 @@ use Rattle.serial.proofs.ids.ids_bytes.Given as goal
 
 abbrev pub invariant-loop-i : goal.invariant-loop-i
 invariant-loop-i l = Slots 6 finished_limit id_bytes blank_id (ids_of l.s) l.i l.out
-
-abbrev pub decreases-loop-i : goal.decreases-loop-i
-decreases-loop-i l = finished_limit - l.i
