@@ -8,6 +8,7 @@ use borrow.Author.Tests.{leb-true, ltb-true}
 use Rattle.basics.specs.Lists.{every_of}
 use Rattle.basics.proofs.Lists.{length-list_of, get_or-list_of}
 use Rattle.basics.proofs.Tests.{and_left, and_right}
+use Rattle.entries.specs.Entries.{finished_limit}
 use Rattle.entries.specs.View.{blank_id, ids_of}
 use Rattle.image.specs.declared.Places.{Places}
 use Rattle.image.specs.Image.{image_length, writable}
@@ -23,9 +24,12 @@ use Rattle.records.specs.Sizes.{node_limit, sizes_within}
 use Rattle.records.specs.View.{rebuild_of, client_of}
 use Rattle.step.specs.declared.clients.Clients.{Clients}
 use Rattle.step.specs.View.{blank_client, clients_of}
-use Rattle.imaging.specs.Imaging.{Counted, AllCounted}
 
 -- ---- a client's lists
+
+-- the lists of a client's record are within their arrays
+abbrev pub Counted : ClientRecord → Type 0
+Counted x = (x.finished.count ≤ finished_limit) × (x.moved.count ≤ finished_limit) × (length (remembered (rebuild_of x.phase)) ≤ node_limit)
 
 locked-few : (z : Sizes) (r : Rebuild) → z.n ≤ 18 → rebuild_within z r ≡ true → length (remembered r) ≤ node_limit
 locked-few z NoRebuild n h = omega arith
@@ -43,14 +47,14 @@ client-counted z x n h =
     let a = and_left (hand_within z (client_of x).hand (client_of x).finished) _ h in
     let b = and_right (hand_within z (client_of x).hand (client_of x).finished) _ h in
     let moved : length (ids_of x.moved) ≤ 8 = search (and_left, and_right, leb-true) in
-    let finished = few-finished z (client_of x).hand (client_of x).finished a in
-    record {
-      finished = omega (arith, finished, length-list_of x.finished.count (λ i. get_or x.finished.items i blank_id));
-      moved = omega (arith, moved, length-list_of x.moved.count (λ i. get_or x.moved.items i blank_id));
-      locked = locked-few z (rebuild_of x.phase) n (and_left (rebuild_within z (rebuild_of x.phase)) _ b);
-    }
+    let finished = few-finished z (client_of x).hand (client_of x).finished a in (
+      omega (arith, finished, length-list_of x.finished.count (λ i. get_or x.finished.items i blank_id)),
+      omega (arith, moved, length-list_of x.moved.count (λ i. get_or x.moved.items i blank_id)),
+      locked-few z (rebuild_of x.phase) n (and_left (rebuild_within z (rebuild_of x.phase)) _ b),
+    )
 
-pub all-counted : (z : Sizes) (x : Clients) → z.n ≤ 18 → every_of (client_within z) (clients_of z.m x) ≡ true → AllCounted z.m x
+pub all-counted : (z : Sizes) (x : Clients) → z.n ≤ 18 → every_of (client_within z) (clients_of z.m x) ≡ true
+    → (i : ℕ) → i < z.m → Counted (get_or x.items i blank_client)
 all-counted z x n e i l =
     let at : ℕ → _ = λ j. client_of (get_or x.items j blank_client) in
     let here = every-place (client_within z) (clients_of z.m x) fresh_client e i (omega (arith, l, length-list_of z.m at)) in

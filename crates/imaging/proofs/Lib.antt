@@ -3,3 +3,4 @@ pub mod Items
 pub mod Writable
 pub mod Header
 pub mod Written
+pub mod Arrays

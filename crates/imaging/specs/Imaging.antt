@@ -1,17 +1,10 @@
 -- Change request C-13: the call that writes an image, and what its parts leave in the buffer. Assumes nothing.
 use Rattle.std.specs.Prelude.{not, ◌&&◌, List, ◌++◌, ℕ, ◌+◌, ◌-◌, ◌≤◌, ◌<◌, eqb, length, get_or}
 use Rattle.octets.specs.Octets.{word_bytes}
-use Rattle.entries.specs.Entries.{finished_limit}
 use Rattle.image.specs.Image.{image, image_length, writable}
 use Rattle.machine.specs.Stripe.{Stripe, Outcome, Accepted, answered, guard}
-use Rattle.records.specs.declared.ClientRecord.{ClientRecord}
 use Rattle.records.specs.declared.Refusal.TheVariants.{OutOfLimits}
 use Rattle.records.specs.declared.Sizes.{Sizes}
-use Rattle.records.specs.Client.{remembered}
-use Rattle.records.specs.Sizes.{node_limit}
-use Rattle.records.specs.View.{rebuild_of}
-use Rattle.step.specs.declared.clients.Clients.{Clients}
-use Rattle.step.specs.View.{blank_client}
 
 -- "The buffer must have exactly the image's length, otherwise the answer is 1 and the buffer keeps its bytes. Writing an image changes no state": what
 -- the call answers, and the buffer as it leaves it
@@ -26,12 +19,3 @@ pair_bytes begin end = word_bytes begin ++ word_bytes (end - begin)
 pub record Rises (bounds : List ℕ) : Type 0 where
   pub rise : (i : ℕ) → i < 6 → get_or bounds i 0 ≤ get_or bounds (i + 1) 0
   pub small : (i : ℕ) → i < 6 → get_or bounds (i + 1) 0 < 4294967296
-
--- the lists of a client's record are within their arrays
-pub record Counted (x : ClientRecord) : Type 0 where
-  pub finished : x.finished.count ≤ finished_limit
-  pub moved : x.moved.count ≤ finished_limit
-  pub locked : length (remembered (rebuild_of x.phase)) ≤ node_limit
-
-abbrev pub AllCounted : ℕ → Clients → Type 0
-AllCounted m x = (i : ℕ) → i < m → Counted (get_or x.items i blank_client)

@@ -1,40 +1,25 @@
 // Whether the sizes, all records and the three tables are within the limits.
-ghost use Rattle.std.specs.Prelude.{true, not, ◌&&◌, ◌≡◌, ◌*◌, eqb};
-ghost use Rattle.basics.specs.Lists.{every_of, some_of};
+ghost use Rattle.std.specs.Prelude.{true, ◌&&◌, ◌≡◌, ◌*◌, eqb};
+ghost use Rattle.basics.specs.Lists.{every_of};
 ghost use Rattle.image.specs.Image.{writable};
 ghost use Rattle.records.specs.Client.{client_within};
 ghost use Rattle.records.specs.Node.{node_within};
 ghost use Rattle.records.specs.Sizes.{sizes_within};
-ghost use Rattle.records.specs.View.{client_of};
 ghost use Rattle.step.specs.View.{clients_of, stripe_of};
 ghost use Rattle.stripe.specs.View.{nodes_of};
 
 use limits::tables::{are_blocks, are_tables};
-use records::{ClientRecord, Sizes};
+use records::Sizes;
 use step::{Clients, Stripe};
 
-fn is_outside(z: Sizes, client: ClientRecord) -> bool
+// Whether the records of all clients are within the limits.
+fn are_clients_within(z: Sizes, clients: Clients) -> bool
     requires { sizes_within z ≡ true }
-    ensures { result ≡ not (client_within z (client_of client)) }
+    ensures { result ≡ every_of (client_within z) (clients_of z.m clients) }
 {
-    !client.is_within(z)
-}
-
-// Whether the record of some client is outside the limits.
-fn some_outside(z: Sizes, clients: Clients) -> bool
-    requires { sizes_within z ≡ true }
-    ensures { result ≡ some_of (λ x. not (client_within z x)) (clients_of z.m clients) }
-{
-    let m = z.m;
-    let mut i = 0;
-    while i < m {
-        let client = clients.items[i];
-        if is_outside(z, client) {
-            return true;
-        }
-        i += 1;
-    }
-    false
+    clients.items[..z.m]
+        .iter()
+        .all(|client| client.is_within(z))
 }
 
 // Whether the records are within them, by sizes that are.
@@ -42,9 +27,7 @@ fn are_records_within(z: Sizes, stripe: Stripe) -> bool
     requires { sizes_within z ≡ true }
     ensures { result ≡ (every_of (node_within z) (nodes_of z.n stripe.nodes) && every_of (client_within z) (clients_of z.m stripe.clients)) }
 {
-    let nodes = stripe.nodes;
-    let clients = stripe.clients;
-    nodes.are_within(z) && !some_outside(z, clients)
+    stripe.nodes.are_within(z) && are_clients_within(z, stripe.clients)
 }
 
 // And the lengths of the three tables.

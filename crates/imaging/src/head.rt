@@ -24,11 +24,9 @@ fn put_pairs(out: &mut [u8], bounds: [usize; 7])
     requires { (header_width ≤ length out.old) × (Rises bounds) }
     ensures { Put out.old 4 (joined 6 (λ i. pair_bytes (get_or bounds i 0) (get_or bounds (i + 1) 0))) out.new }
 {
-    let mut i = 0;
-    while i < 6 {
+    for i in 0..6 {
         let pair = pair_bytes(bounds[i], bounds[i + 1]);
         put(out, 4 + i * 8, &pair);
-        i += 1;
     }
 }
 
@@ -38,8 +36,7 @@ pub(crate) fn put_header(out: &mut [u8], z: Sizes)
     ensures { Put out.old 0 (header z) out.new }
 {
     let p = Places::of(z);
-    let count = word_bytes(6);
-    put(out, 0, &count);
+    put(out, 0, &word_bytes(6));
     put_pairs(
         out,
         [

@@ -17,7 +17,7 @@ use head::{put_header, sizes_bytes};
 use image::{HEADER, Places, SIZES};
 use octets::put;
 use records::{Refusal, Sizes};
-use sections::{put_clients, put_nodes};
+use sections::put_records;
 use step::Stripe;
 
 // The sections, one after the other.
@@ -32,14 +32,11 @@ fn put_image(
     requires { (writable z (stripe_of z stripe blocks.now spare.now differences.now) ≡ true) × (length out.old ≡ image_length z) }
     ensures { out.new ≡ image z (stripe_of z stripe blocks.now spare.now differences.now) }
 {
-    let nodes = stripe.nodes;
-    let clients = stripe.clients;
     let p = Places::of(z);
-    let sizes = sizes_bytes(z);
     put_header(out, z);
-    put(out, HEADER, &sizes);
-    put_nodes(out, HEADER + SIZES, nodes, z.n);
-    put_clients(out, p.clients, clients, z.m);
+    put(out, HEADER, &sizes_bytes(z));
+    put_records(out, HEADER + SIZES, &stripe.nodes.items[..z.n]);
+    put_records(out, p.clients, &stripe.clients.items[..z.m]);
     put(out, p.blocks, blocks);
     put(out, p.differences, differences);
     put(out, p.spare, spare);
@@ -57,10 +54,7 @@ pub fn write(
     ensures { Meets (written z (stripe_of z stripe blocks.now spare.now differences.now) out.old)
         result [] out.new (out.new ≡ out.old) }
 {
-    if !is_writable(z, stripe, blocks, differences, spare) {
-        return Answer::Refused(Refusal::OutOfLimits);
-    }
-    if out.len() != image::length(z) {
+    if !is_writable(z, stripe, blocks, differences, spare) || out.len() != image::length(z) {
         return Answer::Refused(Refusal::OutOfLimits);
     }
     put_image(z, stripe, blocks, differences, spare, out);

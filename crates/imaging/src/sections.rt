@@ -1,41 +1,55 @@
 // The tables of records.
-ghost use Rattle.std.specs.Prelude.{◌+◌, ◌*◌, ◌≤◌, length};
-ghost use Rattle.octets.specs.Octets.{Put};
-ghost use Rattle.image.specs.Image.{nodes_bytes, clients_bytes};
-ghost use Rattle.image.specs.Records.{node_width, client_width};
-ghost use Rattle.records.specs.Sizes.{node_limit, client_limit};
-ghost use Rattle.step.specs.View.{clients_of};
-ghost use Rattle.stripe.specs.View.{Counted, nodes_of};
-ghost use Rattle.imaging.specs.Imaging.{AllCounted};
+ghost use Rattle.std.specs.Prelude.{List, ℕ, ◌≡◌, ◌+◌, ◌*◌, ◌≤◌, get_or, length};
+ghost use Rattle.std.specs.List.{All};
+ghost use Rattle.entries.specs.Entries.{entry_limit, finished_limit};
+ghost use Rattle.octets.specs.Octets.{joined, Put};
+ghost use Rattle.image.specs.Records.{client_bytes, node_bytes};
+ghost use Rattle.records.specs.Client.{remembered};
+ghost use Rattle.records.specs.Sizes.{node_limit};
+ghost use Rattle.records.specs.View.{client_of, node_of, rebuild_of};
 
 use image::{CLIENT, NODE};
 use octets::put;
-use serial::{client_bytes, node_bytes};
-use step::Clients;
-use stripe::Nodes;
+use records::{ClientRecord, NodeRecord};
 
-pub(crate) fn put_nodes(out: &mut [u8], at: usize, nodes: Nodes, n: usize)
-    requires { (n ≤ node_limit) × (Counted n nodes) × (at + n * node_width ≤ length out.old) }
-    ensures { Put out.old at (nodes_bytes (nodes_of n nodes)) out.new }
-{
-    let mut i = 0;
-    while i < n {
-        let node = nodes.items[i];
-        let b = node_bytes(node);
-        put(out, at + i * NODE, &b);
-        i += 1;
+// A record that stands in an image as W bytes.
+pub(crate) trait Imaged<const W: usize>: Copy {
+    ghost fits: { Self → Type 0 };
+
+    ghost shown: { Self → List ℕ };
+
+    fn bytes(self) -> [u8; W]
+        requires { fits self }
+        ensures { result ≡ shown self };
+}
+
+impl Imaged<NODE> for NodeRecord {
+    ghost fits = { λ x. x.entries.count ≤ entry_limit };
+
+    ghost shown = { λ x. node_bytes (node_of x) };
+
+    fn bytes(self) -> [u8; NODE] {
+        serial::node_bytes(self)
     }
 }
 
-pub(crate) fn put_clients(out: &mut [u8], at: usize, clients: Clients, m: usize)
-    requires { (m ≤ client_limit) × (AllCounted m clients) × (at + m * client_width ≤ length out.old) }
-    ensures { Put out.old at (clients_bytes (clients_of m clients)) out.new }
+impl Imaged<CLIENT> for ClientRecord {
+    ghost fits = { λ x. (x.finished.count ≤ finished_limit) × (x.moved.count ≤ finished_limit) × (length (remembered (rebuild_of x.phase)) ≤ node_limit) };
+
+    ghost shown = { λ x. client_bytes (client_of x) };
+
+    fn bytes(self) -> [u8; CLIENT] {
+        serial::client_bytes(self)
+    }
+}
+
+// The bytes of each record, one after the other from place `at` on.
+pub(crate) fn put_records<const W: usize, T: Imaged<W>>(out: &mut [u8], at: usize, records: &[T])
+    requires fit { All T.fits records.now }
+    requires room { at + length records.now * W ≤ length out.old }
+    ensures { (d : T) → Put out.old at (joined (length records.now) (λ i. T.shown (get_or records.now i d))) out.new }
 {
-    let mut i = 0;
-    while i < m {
-        let client = clients.items[i];
-        let b = client_bytes(client);
-        put(out, at + i * CLIENT, &b);
-        i += 1;
+    for (i, record) in records.iter().enumerate() {
+        put(out, at + i * W, &record.bytes());
     }
 }

@@ -31,7 +31,7 @@ use Rattle.records.specs.Node.{Node, expired_for, node_within}
 use Rattle.records.specs.Sizes.{is_client, is_node, sizes_within}
 use Rattle.records.specs.View.{client_of, node_of}
 use Rattle.taking.specs.Table.{clients_in, nodes_in}
-use Rattle.shelf.proofs.Lists.{get_d_any}
+use Rattle.std.proofs.lemmas.List.{get_or_default}
 use Rattle.step.specs.View.{blank_client}
 use Rattle.stripe.specs.View.{blank_record}
 use Rattle.volume.specs.Volume.{refused_with}
@@ -139,7 +139,7 @@ module _ (z : Sizes) (c stripes : ℕ) (clients : List ClientRecord) (long : len
   there : (r : ℕ) → r < stripes → (j : ℕ) → j < z.m → client_at (clients_in (of_stripe r z.m clients)) (suc j) ≡ client_of (get_or clients (r * z.m + j) blank_client)
   unfolding element_at
   there r l j b =
-      get_d_any (clients_in (of_stripe r z.m clients)) j fresh_client (client_of blank_client)
+      get_or_default (clients_in (of_stripe r z.m clients)) j fresh_client (client_of blank_client)
       (omega (arith, b, length-map (of_stripe r z.m clients) client_of, stripe-length r z.m stripes clients l long))
       ∙ at-stripe client_of r z.m clients blank_client j b
 

@@ -23,6 +23,6 @@ returns c = let z = c.args.z in
     let long : length pairs ≡ 48 = length-joined 8 6 (λ i. pair_bytes (get_or bounds i 0) (get_or bounds (i + 1) 0)) (λ i l. refl) in
     filled_put {next = 52}
     (rw (← header-pairs z)
-    (fill 48 52 pairs (fill 4 4 (word_bytes 6) (filled_none c.args.out.now) c.put.ensures c.word_bytes-count.ensures refl refl) c.put_pairs.ensures
+    (fill 48 52 pairs (fill 4 4 (word_bytes 6) (filled_none c.args.out.now) c.put.ensures c.word_bytes.ensures refl refl) c.put_pairs.ensures
     (λ i. joined 6 (λ j. pair_bytes (get_or (bounds_of (c.of-p.ensures i)) j 0) (get_or (bounds_of (c.of-p.ensures i)) (j + 1) 0))) long refl))
     (omega (arith, length-header z))
