@@ -1,7 +1,7 @@
 -- A call on its way over the stripes: the volume's own tests, the stripes that it goes to, what it is in each. Assumes nothing.
-use Rattle.std.specs.Prelude.{Bool, true, false, cond, ◌&&◌, ◌||◌, not, List, ◌≡◌, ℕ, suc, ◌+◌, ◌%◌, ◌<◌, eqb, leb, ltb, length}
+use Rattle.std.specs.Prelude.{Bool, true, false, cond, ◌&&◌, ◌||◌, not, List, Err, Ok, Result, ℕ, ◌+◌, ◌%◌, eqb, leb, length}
+use Rattle.std.specs.List.{enumerate_from, list_all}
 use Rattle.calls.specs.declared.Answer.{Answer}
-use Rattle.calls.specs.declared.Answer.TheVariants.{Accepted, Refused}
 use Rattle.calls.specs.declared.StepCall.{StepCall}
 use Rattle.calls.specs.declared.StepCall.TheVariants.{Swap, Fail, Due, Tick, At, By}
 use Rattle.calls.specs.Answers.{shown_part}
@@ -10,13 +10,13 @@ use Rattle.layout.specs.Layout.{node_for}
 use Rattle.parts.specs.Inside.{part_in}
 use Rattle.records.specs.declared.ClientRecord.{ClientRecord}
 use Rattle.records.specs.declared.NodeRecord.{NodeRecord}
+use Rattle.records.specs.declared.Refusal.{Refusal}
 use Rattle.records.specs.declared.Refusal.TheVariants.{OutOfLimits, OutOfRange}
 use Rattle.records.specs.declared.Sizes.{Sizes}
 use Rattle.records.specs.Client.{client_within}
 use Rattle.records.specs.Node.{node_within}
 use Rattle.records.specs.Sizes.{sizes_within}
 use Rattle.records.specs.View.{client_of, node_of}
-use Rattle.tables.specs.declared.Volume.{Volume}
 use Rattle.tables.specs.Parts.{lengths_of, part_from, part_of, part_to, table_blocks, volume_within}
 use Rattle.taking.specs.declared.PickRequest.{PickRequest}
 use Rattle.taking.specs.declared.SizedRead.{SizedRead}
@@ -24,11 +24,9 @@ use Rattle.taking.specs.declared.Request.{Request}
 use Rattle.volume.specs.Volume.{is_stop}
 use Rattle.routing.specs.declared.ReadRequest as read
 use Rattle.routing.specs.declared.SizedRead as sized
-use Rattle.routing.specs.declared.ReadWalk.{ReadWalk}
 use Rattle.routing.specs.declared.Request as request
 use Rattle.routing.specs.declared.VolumeCall.{VolumeCall}
 use Rattle.routing.specs.declared.VolumeCall.TheVariants.{Pick, Step}
-use Rattle.routing.specs.declared.Walk.{Walk}
 
 -- ---- the calls
 
@@ -86,14 +84,7 @@ step_for Tick n s = Tick
 step_for (At op c j) n s = At op c j
 step_for (By op c) n s = By op c
 
-abbrev pub step_in : VolumeCall → ℕ → ℕ → StepCall
-step_in (Pick c) n s = Due 0
-step_in (Step call) n s = step_for call n s
-
 -- ---- the volume's own tests
-
-abbrev pub walk_to : Volume → VolumeCall → ℕ → ℕ → Answer → Walk
-walk_to volume call at end answer = record { volume = volume; call = call; at = at; end = end; answer = answer }
 
 abbrev pub walk_fits : request.Request → ℕ → ℕ → ℕ → ℕ → ℕ → ℕ → Bool
 walk_fits q nodes clients blocks spare differences value =
@@ -101,91 +92,55 @@ walk_fits q nodes clients blocks spare differences value =
     volume_within q.volume && (eqb nodes lengths.nodes && (eqb clients lengths.clients && (eqb blocks lengths.blocks
     && (eqb spare lengths.blocks && (eqb differences lengths.differences && value_fits q.call q.volume.z.b lengths.value value)))))
 
--- 1 for the count, the sizes and the lengths, then 2 for the stripe
-abbrev pub begun_of : request.Request → ℕ → ℕ → ℕ → ℕ → ℕ → ℕ → Walk
-begun_of q nodes clients blocks spare differences value =
-    cond (walk_fits q nodes clients blocks spare differences value)
-    (cond (is_of_each_call q.call) (walk_to q.volume q.call 0 q.volume.stripes Accepted)
-    (cond (leb q.volume.stripes q.stripe) (walk_to q.volume q.call 0 0 (Refused OutOfRange))
-    (walk_to q.volume q.call q.stripe (suc q.stripe) Accepted)))
-    (walk_to q.volume q.call 0 0 (Refused OutOfLimits))
-
-abbrev pub refused_walk : Walk → Walk
-refused_walk w = walk_to w.volume w.call 0 0 (Refused OutOfLimits)
-
--- ---- before a stop every node's record is looked at, and the client's in every stripe
-
-abbrev pub looks_of : Walk → Bool
-looks_of w = is_stop_call w.call && ltb w.at w.end
-
-abbrev pub node_end : Walk → ℕ
-node_end w = cond (looks_of w) (lengths_of w.volume).nodes 0
-
-abbrev pub nodes_begun : Walk → ℕ → Walk
-nodes_begun w len = cond (leb (node_end w) len) w (refused_walk w)
-
-abbrev pub seen_node : Walk → ℕ → NodeRecord → Walk
-seen_node w i node = cond (node_within w.volume.z (node_of node)) w (refused_walk w)
-
-abbrev pub client_end : Walk → ℕ
-client_end w = cond (looks_of w) (lengths_of w.volume).clients 0
-
-abbrev pub clients_begun : Walk → ℕ → Walk
-clients_begun w len = cond (leb (client_end w) len) w (refused_walk w)
-
 -- whether place i of a table of clients, m for each stripe, is that of client c
 abbrev pub is_place_of : ℕ → ℕ → ℕ → Bool
 is_place_of m c i = not (eqb m 0) && eqb (i % m + 1) c
 
-abbrev pub seen_client : Walk → ℕ → ClientRecord → Walk
-seen_client w i client =
-    let z = w.volume.z in
-    cond (is_place_of z.m (stopping_of w.call) i && not (sizes_within z && client_within z (client_of client))) (refused_walk w) w
+-- what a stop tests of the records: every node's, and the client's in every stripe
+abbrev pub node_passes : Sizes → NodeRecord → Bool
+node_passes z node = node_within z (node_of node)
 
--- a walk that was begun with a table of the right length is refused if a record is outside the limits, and goes on as it is if none is
-pub record Looks (end : ℕ) (is_outside : ℕ → Bool) (w r : Walk) : Type 0 where
-  pub inside : ((i : ℕ) → i < end → is_outside i ≡ false) → r ≡ w
-  pub outside : (i : ℕ) → i < end → is_outside i ≡ true → r ≡ refused_walk w
+abbrev pub client_passes : Sizes → ℕ → ℕ × ClientRecord → Bool
+client_passes z c p = not (is_place_of z.m c p.0) || (sizes_within z && client_within z (client_of p.1))
 
--- ---- the stripes, one after the other
+abbrev pub may_stop : request.Request → List NodeRecord → List ClientRecord → Bool
+may_stop q nodes clients =
+    list_all (node_passes q.volume.z) nodes && list_all (client_passes q.volume.z (stopping_of q.call)) (enumerate_from 0 clients)
 
-abbrev pub goes_on : Walk → Bool
-goes_on w = ltb w.at w.end
+-- 1 for the count, the sizes, the lengths and, before a stop, the records; then 2 for the stripe
+abbrev pub tested : request.Request → List NodeRecord → List ClientRecord → ℕ → ℕ → ℕ → ℕ → Result (Unit {0}) Refusal
+tested q nodes clients blocks spare differences value =
+    cond (walk_fits q (length nodes) (length clients) blocks spare differences value)
+    (cond (is_stop_call q.call && not (may_stop q nodes clients)) (Err OutOfLimits)
+    (cond (not (is_of_each_call q.call) && leb q.volume.stripes q.stripe) (Err OutOfRange) (Ok tt)))
+    (Err OutOfLimits)
 
-abbrev pub picks_call : VolumeCall → Bool
-picks_call (Pick c) = true
-picks_call (Step call) = false
+-- ---- the call on one stripe
 
-abbrev pub picks_of : Walk → Bool
-picks_of w = picks_call w.call
+-- "a client's stop is a stop in each", a card's failure a failure in each
+abbrev pub stripes_of : request.Request → ℕ
+stripes_of q = q.volume.stripes
 
--- a step on one stripe alone
-abbrev pub is_one_step : Walk → Bool
-is_one_step w = goes_on w && (not (picks_of w) && not (is_of_each_call w.call))
+abbrev pub at_stripe : request.Request → ℕ → request.Request
+at_stripe q s = record { volume = q.volume; stripe = s; call = q.call }
 
-abbrev pub step_request_of : Walk → Request
-step_request_of w = record { z = w.volume.z; call = step_in w.call w.volume.z.n w.at }
+abbrev pub pick_request_of : request.Request → ℕ → PickRequest
+pick_request_of q c = record { z = q.volume.z; c = c }
 
-abbrev pub pick_request_of : Walk → PickRequest
-pick_request_of w = record { z = w.volume.z; c = stopping_of w.call }
-
-abbrev pub after_of : Walk → Answer → Walk
-after_of w answer = cond (goes_on w) (walk_to w.volume w.call (suc w.at) w.end answer) w
+abbrev pub step_request_of : request.Request → StepCall → Request
+step_request_of q call = record { z = q.volume.z; call = step_for call q.volume.z.n q.stripe }
 
 -- "with B bytes given for each, in stripe order"
-abbrev pub value_from : Walk → ℕ → ℕ
-value_from w len = cond (is_failure_call w.call) (part_from w.at w.volume.z.b len) 0
+abbrev pub value_from : request.Request → ℕ → ℕ
+value_from q len = cond (is_failure_call q.call) (part_from q.stripe q.volume.z.b len) 0
 
-abbrev pub value_to : Walk → ℕ → ℕ
-value_to w len = cond (is_failure_call w.call) (part_to w.at w.volume.z.b len) len
+abbrev pub value_to : request.Request → ℕ → ℕ
+value_to q len = cond (is_failure_call q.call) (part_to q.stripe q.volume.z.b len) len
 
 -- ---- a read
 
 abbrev pub sized_of : read.ReadRequest → ℕ → ℕ → sized.SizedRead
 sized_of q blocks spare = record { volume = q.volume; stripe = q.stripe; i = q.i; blocks = blocks; spare = spare }
-
-abbrev pub read_walk : Volume → ℕ → ℕ → Bool → Answer → ReadWalk
-read_walk volume i at goes answer = record { volume = volume; i = i; at = at; goes = goes; answer = answer }
 
 abbrev pub read_fits : sized.SizedRead → ℕ → ℕ → Bool
 read_fits q nodes clients =
@@ -193,23 +148,15 @@ read_fits q nodes clients =
     volume_within q.volume && (eqb nodes lengths.nodes && (eqb clients lengths.clients
     && (eqb q.blocks lengths.blocks && eqb q.spare lengths.blocks)))
 
-abbrev pub read_begun_of : sized.SizedRead → ℕ → ℕ → ReadWalk
-read_begun_of q nodes clients =
-    cond (read_fits q nodes clients)
-    (cond (leb q.volume.stripes q.stripe) (read_walk q.volume q.i 0 false (Refused OutOfRange))
-    (read_walk q.volume q.i q.stripe true Accepted))
-    (read_walk q.volume q.i 0 false (Refused OutOfLimits))
+-- 1 for the count, the sizes and the lengths, then 2 for the stripe
+abbrev pub read_tested : sized.SizedRead → ℕ → ℕ → Result (Unit {0}) Refusal
+read_tested q nodes clients =
+    cond (read_fits q nodes clients) (cond (leb q.volume.stripes q.stripe) (Err OutOfRange) (Ok tt)) (Err OutOfLimits)
 
-abbrev pub no_sizes : Sizes
-no_sizes = record { k = 0; n = 0; b = 0; failures = 0; m = 0 }
-
-abbrev pub read_request_of : ReadWalk → SizedRead
-read_request_of w =
-    let each = table_blocks w.volume.z in
-    cond w.goes (record { z = w.volume.z; i = w.i; blocks = each; spare = each }) (record { z = no_sizes; i = 0; blocks = 0; spare = 0 })
-
-abbrev pub read_after_of : ReadWalk → Answer → Answer
-read_after_of w answer = cond w.goes answer w.answer
+abbrev pub read_request_of : sized.SizedRead → SizedRead
+read_request_of q =
+    let each = table_blocks q.volume.z in
+    record { z = q.volume.z; i = q.i; blocks = each; spare = each }
 
 -- the block that an answer names, in the stripe's own part of each table
 abbrev pub shown_of : sized.SizedRead → Answer → List ℕ → List ℕ → List ℕ

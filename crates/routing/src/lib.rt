@@ -1,11 +1,11 @@
 // A volume's call on its way to its stripes: the volume's own tests, the stripes that the call goes to, what it is in each of them, and the part of each
-// table that is the stripe's own. All by value; the tables are in crate volumeshelf.
+// table that is the stripe's own. The calls on the tables are in crate volumeshelf.
 #![tactic(auto)]
 
 mod reads; // reads.rt: a read on its way to its stripe
 mod walks; // walks.rt: a call on its way over the stripes
 
-use calls::{Answer, StepCall};
+use calls::StepCall;
 use tables::Volume;
 
 // Every call but read. Of the calls that step a record a stop and a failure are of every stripe, and the number in a failure is that of a card.
@@ -39,25 +39,4 @@ pub struct SizedRead {
     pub i: u8,
     pub blocks: usize,
     pub spare: usize,
-}
-
-// A call on its way: it goes to the stripes from `at` on and before `end`. The answer is the last one's; before any, Accepted; and a refusal of the
-// volume's own, which goes to none.
-#[derive(Clone, Copy)]
-pub struct Walk {
-    pub volume: Volume,
-    pub call: VolumeCall,
-    pub at: usize,
-    pub end: usize,
-    pub answer: Answer,
-}
-
-// A read on its way to its stripe; or it goes to none, with a refusal of the volume's own.
-#[derive(Clone, Copy)]
-pub struct ReadWalk {
-    pub volume: Volume,
-    pub i: u8,
-    pub at: usize,
-    pub goes: bool,
-    pub answer: Answer,
 }

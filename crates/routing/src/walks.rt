@@ -2,12 +2,11 @@
 ghost use Rattle.std.specs.Prelude.{◌≡◌};
 ghost use Rattle.tables.specs.Parts.{part_from, part_to, table_blocks, table_differences};
 ghost use Rattle.volume.specs.Volume.{is_stop};
-ghost use Rattle.routing.specs.Walks.{after_of, begun_of, client_end, clients_begun, goes_on, is_failure_call, is_of_each_call, is_one_step};
-ghost use Rattle.routing.specs.Walks.{is_stop_call, looks_of, node_end, nodes_begun, picks_of, pick_request_of, refused_walk, seen_client, seen_node, step_in};
-ghost use Rattle.routing.specs.Walks.{step_for, step_request_of, stopping_of, value_fits, value_fits_step, value_from, value_to, walk_fits};
+ghost use Rattle.routing.specs.Walks.{at_stripe, is_failure_call, is_of_each_call, is_place_of, is_stop_call, may_stop, pick_request_of, step_for, step_request_of, stripes_of};
+ghost use Rattle.routing.specs.Walks.{stopping_of, tested, value_fits, value_fits_step, value_from, value_to, walk_fits};
 
-use crate::{Request, VolumeCall, Walk};
-use calls::{Answer, StepCall};
+use crate::{Request, VolumeCall};
+use calls::StepCall;
 use limits::at_node::is_client_within;
 use records::{ClientCall, ClientRecord, NodeRecord, Refusal};
 use std::ops::Range;
@@ -39,6 +38,13 @@ fn step_for(call: StepCall, n: usize, s: usize) -> StepCall
     }
 }
 
+// Whether place i of a table of clients, m for each stripe, is client c's.
+fn is_place_of(m: usize, c: u8, i: usize) -> bool
+    ensures { result ≡ is_place_of m c i }
+{
+    m != 0 && i % m + 1 == c as usize
+}
+
 impl VolumeCall {
     fn is_stop(self) -> bool
         ensures { result ≡ is_stop_call self }
@@ -56,7 +62,7 @@ impl VolumeCall {
     }
 
     // Whether it is a call on every stripe.
-    fn is_of_each(self) -> bool
+    pub fn is_of_each(self) -> bool
         ensures { result ≡ is_of_each_call self }
     {
         self.is_failure() || self.is_stop()
@@ -81,16 +87,6 @@ impl VolumeCall {
             VolumeCall::Step(call) => call.caller(),
         }
     }
-
-    // What it is in stripe s.
-    fn step_in(self, n: usize, s: usize) -> StepCall
-        ensures { result ≡ step_in self n s }
-    {
-        match self {
-            VolumeCall::Pick(_) => StepCall::Due(0),
-            VolumeCall::Step(call) => step_for(call, n, s),
-        }
-    }
 }
 
 impl Request {
@@ -107,277 +103,100 @@ impl Request {
         ensures { result ≡ walk_fits self nodes clients blocks spare differences value }
     {
         let volume = self.volume;
-        let call = self.call;
-        let z = volume.z;
-        if !volume.within() {
-            return false;
-        }
         let lengths = volume.lengths();
-        if nodes != lengths.nodes {
-            return false;
-        }
-        if clients != lengths.clients {
-            return false;
-        }
-        if blocks != lengths.blocks {
-            return false;
-        }
-        if spare != lengths.blocks {
-            return false;
-        }
-        if differences != lengths.differences {
-            return false;
-        }
-        call.value_fits(z.b, lengths.value, value)
+        volume.within()
+            && (nodes == lengths.nodes
+                && (clients == lengths.clients
+                    && (blocks == lengths.blocks
+                        && (spare == lengths.blocks
+                            && (differences == lengths.differences
+                                && self.call.value_fits(volume.z.b, lengths.value, value))))))
     }
 
-    // The volume's own tests, and the stripes that the call goes to.
-    pub fn begin(
+    // Whether the records that a stop tests are within the limits: every node's, and the client's in every stripe.
+    fn may_stop(self, nodes: &[NodeRecord], clients: &[ClientRecord]) -> bool
+        ensures { result ≡ may_stop self nodes.now clients.now }
+    {
+        let z = self.volume.z;
+        let c = self.call.stopping();
+        nodes.iter().all(|node| node.is_within(z))
+            && clients.iter().enumerate().all(|(i, client)| !is_place_of(z.m, c, i)
+                || is_client_within(z, *client))
+    }
+
+    // The volume's own tests: its limits, the lengths and, before a stop, the records; then the stripe.
+    pub fn test(
         self,
-        nodes: usize,
-        clients: usize,
+        nodes: &[NodeRecord],
+        clients: &[ClientRecord],
         blocks: usize,
         spare: usize,
         differences: usize,
         value: usize,
-    ) -> Walk
-        ensures { result ≡ begun_of self nodes clients blocks spare differences value }
+    ) -> Result<(), Refusal>
+        ensures { result ≡ tested self nodes.now clients.now blocks spare differences value }
     {
         let volume = self.volume;
-        let call = self.call;
-        if !self.fits(nodes, clients, blocks, spare, differences, value) {
-            return Walk {
-                volume: volume,
-                call: call,
-                at: 0,
-                end: 0,
-                answer: Answer::Refused(Refusal::OutOfLimits),
-            };
+        if !self.fits(
+            nodes.len(),
+            clients.len(),
+            blocks,
+            spare,
+            differences,
+            value,
+        ) {
+            return Err(Refusal::OutOfLimits);
         }
-        if call.is_of_each() {
-            return Walk {
-                volume: volume,
-                call: call,
-                at: 0,
-                end: volume.stripes,
-                answer: Answer::Accepted,
-            };
+        if self.call.is_stop() && !self.may_stop(nodes, clients) {
+            return Err(Refusal::OutOfLimits);
         }
-        if volume.stripes <= self.stripe {
-            return Walk {
-                volume: volume,
-                call: call,
-                at: 0,
-                end: 0,
-                answer: Answer::Refused(Refusal::OutOfRange),
-            };
+        if !self.call.is_of_each() && volume.stripes <= self.stripe {
+            return Err(Refusal::OutOfRange);
         }
-        Walk {
-            volume: volume,
-            call: call,
-            at: self.stripe,
-            end: self.stripe + 1,
-            answer: Answer::Accepted,
-        }
+        Ok(())
     }
-}
 
-impl Walk {
-    fn refused(self) -> Self
-        ensures { result ≡ refused_walk self }
+    // How many stripes a call on every stripe goes to, and the call on one of them.
+    pub fn stripes(self) -> usize
+        ensures { result ≡ stripes_of self }
     {
-        let volume = self.volume;
-        let call = self.call;
-        Walk {
-            volume: volume,
-            call: call,
-            at: 0,
-            end: 0,
-            answer: Answer::Refused(Refusal::OutOfLimits),
-        }
+        self.volume.stripes
     }
 
-    // ---- before a stop every node's record is looked at, and the client's in every stripe
-
-    pub fn looks(self) -> bool
-        ensures { result ≡ looks_of self }
+    pub fn at(self, stripe: usize) -> Self
+        ensures { result ≡ at_stripe self stripe }
     {
-        let call = self.call;
-        call.is_stop() && self.at < self.end
+        Request { stripe, ..self }
     }
 
-    pub fn first(self) -> usize
-        ensures { result ≡ 0 }
-    {
-        0
-    }
-
-    pub fn end_of_nodes(self) -> usize
-        ensures { result ≡ node_end self }
-    {
-        if !self.looks() {
-            return 0;
-        }
-        let volume = self.volume;
-        let lengths = volume.lengths();
-        lengths.nodes
-    }
-
-    // The table is of that length, or the call goes no further.
-    pub fn begin_nodes(self, len: usize) -> Self
-        ensures { result ≡ nodes_begun self len }
-    {
-        if self.end_of_nodes() <= len {
-            self
-        } else {
-            self.refused()
-        }
-    }
-
-    pub fn see_node(self, i: usize, node: NodeRecord) -> Self
-        ensures { result ≡ seen_node self i node }
-    {
-        let volume = self.volume;
-        let z = volume.z;
-        if node.is_within(z) {
-            self
-        } else {
-            self.refused()
-        }
-    }
-
-    pub fn end_of_clients(self) -> usize
-        ensures { result ≡ client_end self }
-    {
-        if !self.looks() {
-            return 0;
-        }
-        let volume = self.volume;
-        let lengths = volume.lengths();
-        lengths.clients
-    }
-
-    pub fn begin_clients(self, len: usize) -> Self
-        ensures { result ≡ clients_begun self len }
-    {
-        if self.end_of_clients() <= len {
-            self
-        } else {
-            self.refused()
-        }
-    }
-
-    pub fn see_client(self, i: usize, client: ClientRecord) -> Self
-        ensures { result ≡ seen_client self i client }
-    {
-        let volume = self.volume;
-        let z = volume.z;
-        let call = self.call;
-        if z.m == 0 {
-            return self;
-        }
-        if i % z.m + 1 != call.stopping() as usize {
-            return self;
-        }
-        if is_client_within(z, client) {
-            self
-        } else {
-            self.refused()
-        }
-    }
-
-    // ---- the stripes, one after the other
-
-    pub fn goes_on(self) -> bool
-        ensures { result ≡ goes_on self }
-    {
-        self.at < self.end
-    }
-
-    pub fn picks(self) -> bool
-        ensures { result ≡ picks_of self }
-    {
-        matches!(self.call, VolumeCall::Pick(_))
-    }
-
-    // Whether it is a step on one stripe alone.
-    pub fn is_one_step(self) -> bool
-        ensures { result ≡ is_one_step self }
-    {
-        let call = self.call;
-        self.goes_on() && (!self.picks() && !call.is_of_each())
-    }
-
-    // What shelf is asked, on the stripe's own tables.
-    pub fn step(self) -> taking::Request
-        ensures { result ≡ step_request_of self }
-    {
-        let volume = self.volume;
-        let z = volume.z;
-        let call = self.call;
-        let inner = call.step_in(z.n, self.at);
-        taking::Request { z: z, call: inner }
-    }
-
-    pub fn pick(self) -> taking::PickRequest
-        ensures { result ≡ pick_request_of self }
-    {
-        let volume = self.volume;
-        let z = volume.z;
-        let call = self.call;
-        taking::PickRequest {
-            z: z,
-            c: call.stopping(),
-        }
-    }
-
-    pub fn after(self, answer: Answer) -> Self
-        ensures { result ≡ after_of self answer }
-    {
-        let volume = self.volume;
-        let call = self.call;
-        if self.end <= self.at {
-            return self;
-        }
-        Walk {
-            volume: volume,
-            call: call,
-            at: self.at + 1,
-            end: self.end,
-            answer: answer,
-        }
-    }
-
-    // ---- the stripe's part of each table
-
-    // ---- the parts of the tables that are the stripe's own
+    // ---- the stripe's own part of each table
 
     pub fn nodes_part(self, len: usize) -> Range<usize>
-        ensures start { result.start ≡ part_from self.at self.volume.z.n len }
-        ensures end { result.end ≡ part_to self.at self.volume.z.n len }
+        ensures start { result.start ≡ part_from self.stripe self.volume.z.n len }
+        ensures end { result.end ≡ part_to self.stripe self.volume.z.n len }
     {
-        part(self.at, self.volume.z.n, len)
+        part(self.stripe, self.volume.z.n, len)
     }
 
     pub fn clients_part(self, len: usize) -> Range<usize>
-        ensures start { result.start ≡ part_from self.at self.volume.z.m len }
-        ensures end { result.end ≡ part_to self.at self.volume.z.m len }
+        ensures start { result.start ≡ part_from self.stripe self.volume.z.m len }
+        ensures end { result.end ≡ part_to self.stripe self.volume.z.m len }
     {
-        part(self.at, self.volume.z.m, len)
+        part(self.stripe, self.volume.z.m, len)
     }
 
     pub fn blocks_part(self, len: usize) -> Range<usize>
-        ensures start { result.start ≡ part_from self.at (table_blocks self.volume.z) len }
-        ensures end { result.end ≡ part_to self.at (table_blocks self.volume.z) len }
+        ensures start { result.start ≡ part_from self.stripe (table_blocks self.volume.z) len }
+        ensures end { result.end ≡ part_to self.stripe (table_blocks self.volume.z) len }
     {
-        part(self.at, table_blocks(self.volume.z), len)
+        part(self.stripe, table_blocks(self.volume.z), len)
     }
 
     pub fn differences_part(self, len: usize) -> Range<usize>
-        ensures start { result.start ≡ part_from self.at (table_differences self.volume.z) len }
-        ensures end { result.end ≡ part_to self.at (table_differences self.volume.z) len }
+        ensures start { result.start ≡ part_from self.stripe (table_differences self.volume.z) len }
+        ensures end { result.end ≡ part_to self.stripe (table_differences self.volume.z) len }
     {
-        part(self.at, table_differences(self.volume.z), len)
+        part(self.stripe, table_differences(self.volume.z), len)
     }
 
     // A card's failure has bytes for each stripe, in stripe order.
@@ -386,9 +205,30 @@ impl Walk {
         ensures end { result.end ≡ value_to self len }
     {
         if self.call.is_failure() {
-            part(self.at, self.volume.z.b, len)
+            part(self.stripe, self.volume.z.b, len)
         } else {
             0..len
+        }
+    }
+
+    // ---- what shelf is asked, on these
+
+    pub fn pick(self, c: u8) -> taking::PickRequest
+        ensures { result ≡ pick_request_of self c }
+    {
+        taking::PickRequest {
+            z: self.volume.z,
+            c,
+        }
+    }
+
+    pub fn step(self, call: StepCall) -> taking::Request
+        ensures { result ≡ step_request_of self call }
+    {
+        let z = self.volume.z;
+        taking::Request {
+            z,
+            call: step_for(call, z.n, self.stripe),
         }
     }
 }

@@ -43,7 +43,11 @@ fn bytes_of(count: usize, most: usize, b: usize) -> usize
     requires { most ≤ 18 }
     ensures { result ≡ cond (leb count most && leb b block_limit) (count * b) 0 }
 {
-    if count <= most && b <= Limits::BLOCK_MOST { count * b } else { 0 }
+    if count <= most && b <= Limits::BLOCK_MOST {
+        count * b
+    } else {
+        0
+    }
 }
 
 // The bytes of a stripe's blocks, and of its clients' differences; 0 if the sizes are too large for a stripe.
@@ -97,8 +101,7 @@ impl Volume {
     {
         let lengths = self.lengths();
         self.within()
-            && (nodes == lengths.nodes
-                && (clients == lengths.clients && blocks == lengths.blocks))
+            && (nodes == lengths.nodes && (clients == lengths.clients && blocks == lengths.blocks))
     }
 
     // Every record fresh, every block zero; or refused, with the tables as they were.

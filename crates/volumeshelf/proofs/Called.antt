@@ -1,6 +1,6 @@
--- What a call says whose looks and turns are known. Assumes nothing.
-use mathlib.Core.Bool.{Bool, true, false, cond, ◌&&◌, not}
-use mathlib.Core.List.{List, [], map}
+-- What a call says, by what its tests answer and its calls on stripes say. Assumes nothing.
+use mathlib.Core.Bool.{Bool, true, false, cond, ◌&&◌, ◌||◌, not}
+use mathlib.Core.List.{List, [], ◌∷◌, map}
 use mathlib.Core.Logic.{◌⊎◌, inl, inr}
 use mathlib.Core.Path.{◌≡◌, refl, sym, ap, subst, ◌∙◌}
 use Prim.Native.Nat.{ℕ, zero, suc, ◌-◌, ◌*◌, ◌/◌, ◌≤◌, ◌<◌}
@@ -9,10 +9,15 @@ use native.Mathlib.Omega.{arith}
 use lib.Dec.{eqb, leb, ltb}
 use lib.ListN.{length, get_or, length-map}
 use lib.Seq.{ext_get_or}
-use borrow.Author.Tests.{eqb-true, le-leb, le-ltb, leb-false, leb-true, lt-ltb, ltb-false}
+use borrow.Author.Tests.{eqb-true, le-ltb, leb-false, leb-true, lt-ltb, not-true}
+use Rattle.std.specs.Prelude.{Err, Ok, Result}
+use Rattle.std.specs.List.{enumerate_from, list_all}
+use Rattle.std.proofs.lemmas.List.Folds.{list_all_at}
+use Rattle.std.proofs.lemmas.List.FromFn.{get_or-enumerate_from, length-enumerate_from}
+use native.Mathlib.Nat.{zero-add}
 use Rattle.basics.specs.Lists.{element_at, list_of, some_of}
 use Rattle.basics.proofs.Lists.{element-past, get_or-list_of, length-list_of, none-at, some_at}
-use Rattle.basics.proofs.Tests.{bool_cases, clash, is_false, is_true, or-none, or-one}
+use Rattle.basics.proofs.Tests.{and_both, bool_cases, clash, is_false, is_true, not-no, or-none, or-one}
 use Rattle.blocks.specs.Blocks.{block}
 use Rattle.blocks.proofs.Parts.{part_length}
 use Rattle.calls.specs.declared.Answer.{Answer}
@@ -27,7 +32,6 @@ use Rattle.machine.specs.Calls.{Call, step}
 use Rattle.machine.specs.Calls as Calls
 use Rattle.machine.specs.Stripe as Machine
 use Rattle.machine.specs.Stripe.{Outcome, Stripe, answered, guard, nodes_fit, number, refused}
-use Rattle.parts.specs.Turns.{Turns, none, more}
 use Rattle.records.specs.declared.ClientCall.{ClientCall}
 use Rattle.records.specs.declared.ClientCall.TheVariants.{Drop, Sweep, Stop, Lock, Weaken, Tighten, Write, Settle, Unlock, Quit}
 use Rattle.records.specs.declared.ClientRecord.{ClientRecord}
@@ -37,6 +41,8 @@ use Rattle.records.specs.declared.Refusal.TheVariants.{OutOfLimits, OutOfRange}
 use Rattle.records.specs.Client.{client_within}
 use Rattle.records.specs.View.{client_of}
 use Rattle.step.specs.View.{blank_client}
+use Rattle.stripe.specs.View.{blank_record}
+use Rattle.records.specs.Sizes.{sizes_within}
 use Rattle.volume.specs.Volume as volume
 use Rattle.volume.specs.Volume.{call_in, given_fits, is_of_each, is_stop, no_stripe, on_each, on_one, put_stripe, refused_with, stripe_at, stripe_limit}
 use Rattle.volume.proofs.Cases.{each-ind}
@@ -46,16 +52,17 @@ use Rattle.routing.specs.declared.Request.{Request}
 use Rattle.tables.specs.declared.Volume.{Volume}
 use Rattle.routing.specs.declared.VolumeCall.{VolumeCall}
 use Rattle.routing.specs.declared.VolumeCall.TheVariants.{Pick, Step}
-use Rattle.routing.specs.declared.Walk.{Walk}
-use Rattle.volumeshelf.specs.Entry.{ClientsLooked, NodesLooked}
 use Rattle.tables.specs.Parts.{volume_within}
 use Rattle.volumeshelf.specs.Volumes.{CallsVolume, call_of, calling, volume_in}
-use Rattle.routing.specs.Walks.{Looks, after_of, begun_of, client_end, goes_on, is_failure_call, is_of_each_call, is_place_of, is_stop_call, looks_of, node_end, stopping_of, walk_fits, walk_to}
+use Rattle.routing.specs.Walks.{client_passes, is_failure_call, is_of_each_call, is_place_of, is_stop_call, may_stop, node_passes, stopping_of, tested, walk_fits}
+use Rattle.volumeshelf.specs.Entry.{Makes, Turns}
 use Rattle.volumeshelf.proofs.Fits.{Fits, fits-false, fits-past, fits-true}
 use Rattle.volumeshelf.proofs.Ranges.{fits_in}
-use Rattle.volumeshelf.proofs.Stops.{clients-in, clients-out, clients-some, fail-passes, in-stripe, nodes-in, nodes-out, one_of, outside, outside-client, stop-passes, stop-refused}
-use Rattle.volumeshelf.proofs.Turn.{Lent, Makes, stripe-at, stripe-count, stripe-length, stripe_of}
-use Rattle.volumeshelf.proofs.Walked.{Sofar, Unchanged, walked}
+use Rattle.volumeshelf.proofs.Tested.{refusal_of}
+use Rattle.volumeshelf.proofs.Tested as tested-by
+use Rattle.volumeshelf.proofs.Stops.{clients-in, clients-out, clients-some, fail-passes, in-stripe, nodes-in, nodes-out, outside-client, stop-passes, stop-refused}
+use Rattle.volumeshelf.proofs.Turn.{Lent, stripe-at, stripe-count, stripe-length, stripe_of}
+use Rattle.volumeshelf.proofs.Walked.{Sofar, Unchanged, walked, walked_one}
 
 -- ---- volumes
 
@@ -70,21 +77,25 @@ volume-is v t u long at =
     (λ r l. let in-range : r < v.stripes = omega (arith, l, length-list_of v.stripes (stripe_of v t)) in
     stripe-at v t r in-range ∙ sym (at r in-range)))
 
--- ---- a walk that goes nowhere
+-- a client's record that does not pass is the client's, and outside
+fails-where : (p s w : Bool) → s ≡ true → not (not p || (s && w)) ≡ (p && not w)
+fails-where true true w e = refl
+fails-where false true w e = refl
+fails-where p false w e = clash e refl
 
-quiet-nodes : (nodes : List NodeRecord) (w r : Walk) → looks_of w ≡ false → NodesLooked nodes w r → r ≡ w
-quiet-nodes nodes w r quiet looked =
-    let none : node_end w ≡ 0 = rw quiet in
-    (looked (omega (arith, none))).inside (λ i l. absurd (omega (arith, l, none)))
+-- each element passes, or one does not
+all-at : {X : Type 0} (p : X → Bool) (xs : List X) (d : X) → list_all p xs ≡ true → (i : ℕ) → i < length xs → p (get_or xs i d) ≡ true
+all-at p xs d all i l = is_true (p (get_or xs i d)) (λ none. clash all (list_all_at p xs i d l none))
 
-quiet-clients : (clients : List ClientRecord) (w r : Walk) → looks_of w ≡ false → ClientsLooked clients w r → r ≡ w
-quiet-clients clients w r quiet looked =
-    let none : client_end w ≡ 0 = rw quiet in
-    (looked (omega (arith, none))).inside (λ i l. absurd (omega (arith, l, none)))
-
-no-turn : (value : List ℕ) (w₀ : Walk) (t₀ : Lent) (w : Walk) (t : Lent) → goes_on w₀ ≡ false → Turns goes_on (Makes value) after_of w₀ t₀ w t → (w ≡ w₀) × (t ≡ t₀)
-no-turn value w₀ t₀ w t stays none = (refl, refl)
-no-turn value w₀ t₀ w t stays (more {w = x} {t = y} T goes made) = clash goes (ap goes_on (no-turn value w₀ t₀ x y stays T).0 ∙ stays)
+one-fails : {X : Type 0} (p : X → Bool) (xs : List X) (d : X) → list_all p xs ≡ false → (i : ℕ) × ((i < length xs) × (p (get_or xs i d) ≡ false))
+one-fails p [] d e = clash refl e
+one-fails p (x ∷ xs) d e = by (p x) refl e (one-fails p xs d)
+  where
+    by : (b : Bool) → p x ≡ b → (b && list_all p xs) ≡ false
+        → (list_all p xs ≡ false → (i : ℕ) × ((i < length xs) × (p (get_or xs i d) ≡ false)))
+        → (i : ℕ) × ((i < length (x ∷ xs)) × (p (get_or (x ∷ xs) i d) ≡ false))
+    by true h f rest = let r = rest f in (suc r.0, (omega (arith, r.1.0), r.1.1))
+    by false h f rest = (0, (omega arith, h))
 
 and-false : (b : Bool) → (b && false) ≡ false
 and-false true = refl
@@ -98,7 +109,7 @@ left_by a {P} f = by (bool_cases (is_unchanged a))
     by (inl e) = let r = refusing a e in left-same a (f (record { why = r.why; is = ap (λ x. answer_of x []) r.is; unchanged = r.unchanged }))
     by (inr e) = left-free a P e
 
--- ---- what is said of the call, by the walk that it ends with
+-- ---- what is said of the call
 
 abbrev Said : Request → List ℕ → Lent → Answer → Lent → Type 0
 Said q value t₀ a t =
@@ -123,31 +134,13 @@ module _ (q : Request) (value : List ℕ) (t₀ : Lent) where
   abbrev v : Volume
   v = q.volume
 
-  -- a walk that is refused after the nodes were looked at, after the clients were
-  refused-clients : (why : Refusal) → asks q value t₀ ≡ refused why (vol v t₀) → (w₂ w : Walk) (t : Lent) → w₂ ≡ walk_to v q.call 0 0 (Refused why)
-      → Turns goes_on (Makes value) after_of w₂ t₀ w t → Said q value t₀ w.answer t
-  refused-clients why e w₂ w t two turns =
-      let none = no-turn value w₂ t₀ w t (ap goes_on two) turns in
-      subst (λ (a : Answer). Said q value t₀ a t) (sym (ap (λ x. x.answer) (none.0 ∙ two))) (refused_all q value t₀ t why e none.1)
-
-  refused-nodes : (why : Refusal) → asks q value t₀ ≡ refused why (vol v t₀) → (w₁ w₂ w : Walk) (t : Lent) → w₁ ≡ walk_to v q.call 0 0 (Refused why)
-      → ClientsLooked t₀.clients w₁ w₂ → Turns goes_on (Makes value) after_of w₂ t₀ w t → Said q value t₀ w.answer t
-  refused-nodes why e w₁ w₂ w t one c turns =
-      refused-clients why e w₂ w t (quiet-clients t₀.clients w₁ w₂ (ap looks_of one ∙ and-false (is_stop_call q.call)) c ∙ one) turns
-
-  -- a walk that is refused from the start
-  nowhere : (why : Refusal) → asks q value t₀ ≡ refused why (vol v t₀) → (w₀ w₁ w₂ w : Walk) (t : Lent) → w₀ ≡ walk_to v q.call 0 0 (Refused why)
-      → NodesLooked t₀.nodes w₀ w₁ → ClientsLooked t₀.clients w₁ w₂ → Turns goes_on (Makes value) after_of w₂ t₀ w t → Said q value t₀ w.answer t
-  nowhere why e w₀ w₁ w₂ w t start n c turns =
-      refused-nodes why e w₁ w₂ w t (quiet-nodes t₀.nodes w₀ w₁ (ap looks_of start ∙ and-false (is_stop_call q.call)) n ∙ start) c turns
-
   -- ---- on one stripe
 
   module _ (F : Fits q value t₀) (inside : q.stripe < v.stripes) where
-    one-stripe : (w : Walk) (t : Lent) (last : Answer)
-        → Sofar v F.small_is q.call value F.given_fits t₀ F.fit q.stripe (suc q.stripe) (omega (arith, inside)) (suc q.stripe) t last
+    one-stripe : (t : Lent) (last : Answer)
+        (e-in : suc q.stripe ≤ v.stripes) → Sofar v F.small_is q.call value F.given_fits t₀ F.fit q.stripe (suc q.stripe) e-in (suc q.stripe) t last
         → asks q value t₀ ≡ on_one v.z q.stripe (call_of q.call value) (vol v t₀) → Said q value t₀ last t
-    one-stripe w t last S e =
+    one-stripe t last e-in S e =
         record {
           said = (λ i. answered (outcome i).answer (whole i)) ∙ sym e;
           left = left_by last (λ u. same_tables (S.same (λ r a b. subst (λ (k : ℕ). Unchanged (step_of' k).answer) (omega (arith, a, b)) (subst Unchanged (ap (λ o. o.answer) here) u))));
@@ -228,11 +221,11 @@ module _ (q : Request) (value : List ℕ) (t₀ : Lent) where
   each-refused r l e = rw (one-refuses 1 r refl l e)
 
   each-stripe : (F : Fits q value t₀) → is_of_each call ≡ true → ((r : ℕ) → r < v.stripes → refused_with 1 (step_at r) ≡ false)
-      → (t : Lent) (last : Answer)
-      → Sofar v F.small_is q.call value F.given_fits t₀ F.fit 0 v.stripes (omega arith) v.stripes t last
+      → (t : Lent) (last : Answer) (e-in : v.stripes ≤ v.stripes)
+      → Sofar v F.small_is q.call value F.given_fits t₀ F.fit 0 v.stripes e-in v.stripes t last
       → asks q value t₀ ≡ on_each v.z call (vol v t₀) → Said q value t₀ last t
   unfolding guard
-  each-stripe F each noone t last S e =
+  each-stripe F each noone t last e-in S e =
       record {
         said = (λ i. answered (answer i) (whole i)) ∙ sym e;
         left = left_by last (λ u. same_tables (S.same (λ r a b. subst Unchanged (answer ∙ answer_at r b) u)));
@@ -275,10 +268,7 @@ module _ (q : Request) (value : List ℕ) (t₀ : Lent) where
       whole : vol v t ≡ O.after
       whole = volume-is v t O.after long (λ r l. ap (λ o. o.after) (at r l) ∙ sym (ap (λ o. o.after) (S.done r (omega arith) l).1))
 
-  -- ---- the walk from its beginning
-
-  abbrev pub begun : Walk
-  begun = begun_of q (length t₀.nodes) (length t₀.clients) (length t₀.blocks) (length t₀.spare) (length t₀.differences) (length value)
+  -- ---- past the tests
 
   abbrev pub fits : Bool
   fits = walk_fits q (length t₀.nodes) (length t₀.clients) (length t₀.blocks) (length t₀.spare) (length t₀.differences) (length value)
@@ -297,17 +287,6 @@ module _ (q : Request) (value : List ℕ) (t₀ : Lent) where
   stop-each c e = (or-none (is_failure_call c) (is_stop_call c) e).1
 
   module _ (F : Fits q value t₀) where
-    -- all turns are made
-    all-turns : (u₀ e : ℕ) (e-in : e ≤ v.stripes) → u₀ ≤ e → (w₂ w : Walk) (t : Lent) → w₂ ≡ walk_to v q.call u₀ e Accepted
-        → Turns goes_on (Makes value) after_of w₂ t₀ w t → goes_on w ≡ false
-        → Sofar v F.small_is q.call value F.given_fits t₀ F.fit u₀ e e-in e t w.answer
-    all-turns u₀ e e-in l w₂ w t start turns ended =
-        let W = walked v F.small_is q.call value F.given_fits t₀ F.fit u₀ e e-in l w₂ start w t turns in
-        let past : e ≤ W.u = ltb-false W.u e (sym (ap goes_on W.is) ∙ ended) in
-        let is : W.u ≡ e = omega (arith, past, W.sofar.high) in
-        subst (λ (a : Answer). Sofar v F.small_is q.call value F.given_fits t₀ F.fit u₀ e e-in e t a) (sym (ap (λ x. x.answer) W.is))
-        (subst (λ (u : ℕ). Sofar v F.small_is q.call value F.given_fits t₀ F.fit u₀ e e-in u t W.last) is W.sofar)
-
     -- a failure is refused with 1 in no stripe
     fail-noone : (card : ℕ) → q.call ≡ Step (Fail card) → (r : ℕ) → r < v.stripes → refused_with 1 (step_at r) ≡ false
     fail-noone card is r l =
@@ -336,93 +315,59 @@ module _ (q : Request) (value : List ℕ) (t₀ : Lent) where
       stop-at : (r : ℕ) → step_at r ≡ step v.z (Calls.By Stop c) (stripe_of v t₀ r)
       stop-at r = ap (λ x. step v.z (call_in v.z r (call_of x value)) (stripe_of v t₀ r)) is
 
-      abbrev start : Walk
-      start = walk_to v q.call 0 v.stripes Accepted
-
-      looks : looks_of start ≡ true
-      looks = ap (λ (x : VolumeCall). is_stop_call x && ltb 0 v.stripes) is ∙ lt-ltb 0 v.stripes (omega (arith, F.small_is.some))
-
-      within : volume_within v ≡ true
-      unfolding volume_within
-      within = rw (le-leb 1 v.stripes F.small_is.some, le-leb v.stripes stripe_limit F.small_is.stripes, F.small_is.within)
-
-      nodes-end : node_end start ≡ v.stripes * v.z.n
-      nodes-end = rw (looks, within)
-
-      clients-end : client_end start ≡ v.stripes * v.z.m
-      clients-end = rw (looks, within)
-
       stopped_by : stopping_of q.call ≡ c
       stopped_by = ap stopping_of is
 
-      stop-said : (w₀ w₁ w₂ w : Walk) (t : Lent) → w₀ ≡ start → NodesLooked t₀.nodes w₀ w₁ → ClientsLooked t₀.clients w₁ w₂
-          → Turns goes_on (Makes value) after_of w₂ t₀ w t → goes_on w ≡ false → Said q value t₀ w.answer t
-      stop-said w₀ w₁ w₂ w t begins n k turns ended =
-          seen-nodes (one_of (v.stripes * v.z.n) (outside v.z v.stripes t₀.nodes F.fit.nodes some-nodes))
+      -- a record that passes is not outside, and one that is outside does not pass
+      abbrev passes : ℕ × ClientRecord → Bool
+      passes = client_passes v.z c
+
+      client-outside : (i : ℕ) → i < length t₀.clients
+          → not (passes (get_or (enumerate_from 0 t₀.clients) i (0, blank_client))) ≡ outside-client v.z c v.stripes t₀.clients F.fit.clients some-clients some-nodes i
+      client-outside i l =
+          ap (λ (p : ℕ × ClientRecord). not (passes p)) (get_or-enumerate_from 0 t₀.clients i (0, blank_client) l)
+          ∙ ap (λ (k : ℕ). not (passes (k, get_or t₀.clients i blank_client))) (zero-add i)
+          ∙ fails-where (is_place_of v.z.m c i) (sizes_within v.z) (client_within v.z (client_of (get_or t₀.clients i blank_client))) F.small_is.within
+
+      abbrev clients_pass : Bool
+      clients_pass = list_all passes (enumerate_from 0 t₀.clients)
+
+      may-is : may_stop q t₀.nodes t₀.clients ≡ (list_all (node_passes v.z) t₀.nodes && clients_pass)
+      may-is = ap (λ (k : ℕ). list_all (node_passes v.z) t₀.nodes && list_all (client_passes v.z k) (enumerate_from 0 t₀.clients)) stopped_by
+
+      stop-noone : may_stop q t₀.nodes t₀.clients ≡ true → (r : ℕ) → r < v.stripes → refused_with 1 (step_at r) ≡ false
+      stop-noone may r l =
+          let both = and_both (list_all (node_passes v.z) t₀.nodes) clients_pass (sym may-is ∙ may) in
+          ap (refused_with 1) (stop-at r)
+          ∙ stop-passes v.z c (stripe_of v t₀ r) F.small_is.within
+          (nodes-in v.z v.stripes t₀.nodes F.fit.nodes some-nodes
+          (λ i b. ap not (all-at (node_passes v.z) t₀.nodes blank_record both.0 i (omega (arith, b, F.fit.nodes)))) r l)
+          (clients-in v.z c v.stripes t₀.clients F.fit.clients some-clients some-nodes
+          (λ i b. let k : i < length t₀.clients = omega (arith, b, F.fit.clients) in
+          sym (client-outside i k)
+          ∙ ap not (all-at passes (enumerate_from 0 t₀.clients) (0, blank_client) both.1 i (omega (arith, k, length-enumerate_from 0 t₀.clients)))) r l)
+
+      stop-fails : may_stop q t₀.nodes t₀.clients ≡ false → asks q value t₀ ≡ refused OutOfLimits (vol v t₀)
+      stop-fails may = by (bool_cases (list_all (node_passes v.z) t₀.nodes))
         where
-          looked-n : Looks (node_end start) (outside v.z v.stripes t₀.nodes F.fit.nodes some-nodes) start w₁
-          looked-n = subst (λ (x : Walk). NodesLooked t₀.nodes x w₁) begins n (omega (arith, nodes-end, F.fit.nodes))
-
-          seen-clients : w₁ ≡ start → ((r : ℕ) → r < v.stripes → nodes_fit v.z (stripe_of v t₀ r).nodes ≡ true)
-              → ((i : ℕ) → i < v.stripes * v.z.m → outside-client v.z c v.stripes t₀.clients F.fit.clients some-clients some-nodes i ≡ false)
-              ⊎ ((i : ℕ) × ((i < v.stripes * v.z.m) × (outside-client v.z c v.stripes t₀.clients F.fit.clients some-clients some-nodes i ≡ true)))
-              → Said q value t₀ w.answer t
-          seen-clients one nodes found = by found
-            where
-              looked-c : Looks (client_end start) (outside-client v.z c v.stripes t₀.clients F.fit.clients some-clients some-nodes) start w₂
-              looked-c =
-                  subst (λ (x : ℕ). Looks (client_end start)
-                  (λ i. is_place_of v.z.m x i && not (client_within v.z (client_of (get_or t₀.clients i blank_client)))) start w₂) stopped_by
-                  (subst (λ (x : Walk). ClientsLooked t₀.clients x w₂) one k (omega (arith, clients-end, F.fit.clients)))
-
-              by : ((i : ℕ) → i < v.stripes * v.z.m → outside-client v.z c v.stripes t₀.clients F.fit.clients some-clients some-nodes i ≡ false)
-                  ⊎ ((i : ℕ) × ((i < v.stripes * v.z.m) × (outside-client v.z c v.stripes t₀.clients F.fit.clients some-clients some-nodes i ≡ true)))
-                  → Said q value t₀ w.answer t
-              by (inl all) =
-                  each-stripe F (ap (λ x. is_of_each (call_of x value)) is) passes t w.answer
-                  (all-turns 0 v.stripes (omega arith) (omega arith) w₂ w t (looked-c.inside (λ i l. all i (omega (arith, l, clients-end)))) turns ended) past
-                where
-                  passes : (r : ℕ) → r < v.stripes → refused_with 1 (step_at r) ≡ false
-                  passes r l =
-                      ap (refused_with 1) (stop-at r)
-                      ∙ stop-passes v.z c (stripe_of v t₀ r) F.small_is.within (nodes r l)
-                      (clients-in v.z c v.stripes t₀.clients F.fit.clients some-clients some-nodes all r l)
-              by (inr bad) =
-                  let r = bad.0 / v.z.m in
-                  let in-range = in-stripe v.z.m v.stripes bad.0 some-clients bad.1.0 in
-                  let out = clients-out v.z c v.stripes t₀.clients F.fit.clients some-clients some-nodes bad.0 bad.1.0 bad.1.1 in
-                  refused-clients OutOfLimits
-                  (past ∙ each-refused r in-range (ap (refused_with 1) (stop-at r) ∙ stop-refused v.z c (stripe_of v t₀ r) (rw out (and-false (nodes_fit v.z (stripe_of v t₀ r).nodes)))))
-                  w₂ w t (looked-c.outside bad.0 (omega (arith, bad.1.0, clients-end)) bad.1.1) turns
-
-          seen-nodes : ((i : ℕ) → i < v.stripes * v.z.n → outside v.z v.stripes t₀.nodes F.fit.nodes some-nodes i ≡ false)
-              ⊎ ((i : ℕ) × ((i < v.stripes * v.z.n) × (outside v.z v.stripes t₀.nodes F.fit.nodes some-nodes i ≡ true)))
-              → Said q value t₀ w.answer t
-          seen-nodes (inl all) =
-              seen-clients (looked-n.inside (λ i l. all i (omega (arith, l, nodes-end))))
-              (nodes-in v.z v.stripes t₀.nodes F.fit.nodes some-nodes all)
-              (one_of (v.stripes * v.z.m) (outside-client v.z c v.stripes t₀.clients F.fit.clients some-clients some-nodes))
-          seen-nodes (inr bad) =
+          by : (list_all (node_passes v.z) t₀.nodes ≡ true) ⊎ (list_all (node_passes v.z) t₀.nodes ≡ false) → asks q value t₀ ≡ refused OutOfLimits (vol v t₀)
+          by (inl some) =
+              let bad = one-fails passes (enumerate_from 0 t₀.clients) (0, blank_client) (sym (rw some) ∙ sym may-is ∙ may) in
+              let k : bad.0 < length t₀.clients = omega (arith, bad.1.0, length-enumerate_from 0 t₀.clients) in
+              let b : bad.0 < v.stripes * v.z.m = omega (arith, k, F.fit.clients) in
+              let r = bad.0 / v.z.m in
+              let out = clients-out v.z c v.stripes t₀.clients F.fit.clients some-clients some-nodes bad.0 b (sym (client-outside bad.0 k) ∙ ap not bad.1.1) in
+              past
+              ∙ each-refused r (in-stripe v.z.m v.stripes bad.0 some-clients b)
+              (ap (refused_with 1) (stop-at r) ∙ stop-refused v.z c (stripe_of v t₀ r) (rw out (and-false (nodes_fit v.z (stripe_of v t₀ r).nodes))))
+          by (inr none) =
+              let bad = one-fails (node_passes v.z) t₀.nodes blank_record none in
+              let b : bad.0 < v.stripes * v.z.n = omega (arith, bad.1.0, F.fit.nodes) in
               let r = bad.0 / v.z.n in
-              let in-range = in-stripe v.z.n v.stripes bad.0 some-nodes bad.1.0 in
-              let out = nodes-out v.z v.stripes t₀.nodes F.fit.nodes some-nodes bad.0 bad.1.0 bad.1.1 in
-              refused-nodes OutOfLimits (past ∙ each-refused r in-range (ap (refused_with 1) (stop-at r) ∙ stop-refused v.z c (stripe_of v t₀ r) (rw out)))
-              w₁ w₂ w t (looked-n.outside bad.0 (omega (arith, bad.1.0, nodes-end)) bad.1.1) k turns
-
-  -- ---- where the walk begins
-
-  pub begun-refused : fits ≡ false → begun ≡ walk_to v q.call 0 0 (Refused OutOfLimits)
-  begun-refused e = rw e
-
-  pub begun-each : fits ≡ true → is_of_each_call q.call ≡ true → begun ≡ walk_to v q.call 0 v.stripes Accepted
-  begun-each e f = rw (e, f)
-
-  pub begun-outside : fits ≡ true → is_of_each_call q.call ≡ false → leb v.stripes q.stripe ≡ true → begun ≡ walk_to v q.call 0 0 (Refused OutOfRange)
-  begun-outside e f g = rw (e, f, g)
-
-  pub begun-one : fits ≡ true → is_of_each_call q.call ≡ false → leb v.stripes q.stripe ≡ false
-      → begun ≡ walk_to v q.call q.stripe (suc q.stripe) Accepted
-  begun-one e f g = rw (e, f, g)
+              let out = nodes-out v.z v.stripes t₀.nodes F.fit.nodes some-nodes bad.0 b (ap not bad.1.1) in
+              past
+              ∙ each-refused r (in-stripe v.z.n v.stripes bad.0 some-nodes b)
+              (ap (refused_with 1) (stop-at r) ∙ stop-refused v.z c (stripe_of v t₀ r) (rw out))
 
   -- what the machine is asked past the tests
   abbrev own-stripe : volume.Volume → Outcome volume.Volume
@@ -475,59 +420,84 @@ fail-call (Step Tick) e = clash e refl
 fail-call (Step (At op c j)) e = clash e refl
 fail-call (Step (By op c)) e = clash e refl
 
--- ---- all of it
+-- ---- all of it, by what the tests answer
 
-pub called : (nodes : List NodeRecord) (clients : List ClientRecord) (blocks spare differences value : List ℕ) (q : Request) (w₁ w₂ w : Walk) (t : Lent)
-    → NodesLooked nodes (begun_of q (length nodes) (length clients) (length blocks) (length spare) (length differences) (length value)) w₁
-    → ClientsLooked clients w₁ w₂
-    → Turns goes_on (Makes value) after_of w₂ (record { nodes = nodes; clients = clients; blocks = blocks; spare = spare; differences = differences }) w t
-    → goes_on w ≡ false
-    → CallsVolume nodes clients blocks spare differences value q w.answer t.nodes t.clients t.blocks t.spare t.differences
-called nodes clients blocks spare differences value q w₁ w₂ w t n c turns ended = by (bool_cases (fits q value t₀))
-  where
-    t₀ : Lent
-    t₀ = record { nodes = nodes; clients = clients; blocks = blocks; spare = spare; differences = differences }
+abbrev by-tests : Bool → Bool → Bool → Result (Unit {0}) Refusal
+by-tests f s e = cond f (cond s (Err OutOfLimits) (cond e (Err OutOfRange) (Ok tt))) (Err OutOfLimits)
 
-    each : fits q value t₀ ≡ true → Fits q value t₀ → is_of_each_call q.call ≡ true → (is_stop_call q.call ≡ true) ⊎ (is_stop_call q.call ≡ false)
-        → Said q value t₀ w.answer t
-    each e F f (inl stop) =
-        let s = stop-call q.call stop in
-        stop-said q value t₀ F s.0 s.1 (asks-each q value t₀ F f) (begun q value t₀) w₁ w₂ w t (begun-each q value t₀ e f) n c turns ended
-    each e F f (inr still) =
-        let s = fail-call q.call (fails (or-one (is_failure_call q.call) (is_stop_call q.call) f)) in
-        let start = begun-each q value t₀ e f in
-        let one = quiet-nodes nodes (begun q value t₀) w₁ (quiet start) n ∙ start in
-        let two = quiet-clients clients w₁ w₂ (quiet one) c ∙ one in
-        each-stripe q value t₀ F (sym (each-is q value t₀ q.call) ∙ f) (fail-noone q value t₀ F s.0 s.1) t w.answer
-        (all-turns q value t₀ F 0 q.volume.stripes (omega arith) (omega arith) w₂ w t two turns ended) (asks-each q value t₀ F f)
+passed : (f s e : Bool) → tested-by.passes (by-tests f s e) ≡ true → (f ≡ true) × ((s ≡ false) × (e ≡ false))
+passed true false false h = (refl, (refl, refl))
+passed true false true h = clash h refl
+passed true true e h = clash h refl
+passed false s e h = clash h refl
+
+module _ (q : Request) (value : List ℕ) (t₀ : Lent) where
+  abbrev stops : Bool
+  stops = is_stop_call q.call && not (may_stop q t₀.nodes t₀.clients)
+
+  abbrev is_outside : Bool
+  is_outside = not (is_of_each_call q.call) && leb q.volume.stripes q.stripe
+
+  abbrev test : Result (Unit {0}) Refusal
+  test = tested q t₀.nodes t₀.clients (length t₀.blocks) (length t₀.spare) (length t₀.differences) (length value)
+
+  stop-of-each : is_stop_call q.call ≡ true → is_of_each_call q.call ≡ true
+  stop-of-each e = rw e (or-true (is_failure_call q.call))
+    where
+      or-true : (b : Bool) → (b || true) ≡ true
+      or-true true = refl
+      or-true false = refl
+
+  refused-as : (why other : Refusal) → test ≡ Err why → test ≡ Err other → asks q value t₀ ≡ refused other (vol q.volume t₀) → Said q value t₀ (Refused why) t₀
+  refused-as why other h is e =
+      subst (λ (w : Refusal). Said q value t₀ (Refused w) t₀) (ap refusal_of (sym is ∙ h)) (refused_all q value t₀ t₀ other e refl)
+
+  pub refused-said : (why : Refusal) → test ≡ Err why → Said q value t₀ (Refused why) t₀
+  refused-said why h = by (bool_cases (fits q value t₀)) (bool_cases stops) (bool_cases is_outside)
+    where
+      by : (fits q value t₀ ≡ true) ⊎ (fits q value t₀ ≡ false) → (stops ≡ true) ⊎ (stops ≡ false) → (is_outside ≡ true) ⊎ (is_outside ≡ false)
+          → Said q value t₀ (Refused why) t₀
+      by (inr f) s e = refused-as why OutOfLimits h (ap (λ (b : Bool). by-tests b stops is_outside) f) (fits-false q value t₀ f)
+      by (inl f) (inl s) e =
+          let both = and_both (is_stop_call q.call) (not (may_stop q t₀.nodes t₀.clients)) s in
+          let F = fits-true q value t₀ f in
+          let c = stop-call q.call both.0 in
+          refused-as why OutOfLimits h (λ i. by-tests (f i) (s i) is_outside)
+          (stop-fails q value t₀ F c.0 c.1 (asks-each q value t₀ F (stop-of-each both.0)) (not-true (may_stop q t₀.nodes t₀.clients) both.1))
+      by (inl f) (inr s) (inl e) =
+          let both = and_both (not (is_of_each_call q.call)) (leb q.volume.stripes q.stripe) e in
+          refused-as why OutOfRange h (λ i. by-tests (f i) (s i) (e i))
+          (asks-outside q value t₀ (fits-true q value t₀ f) (not-true (is_of_each_call q.call) both.0) (leb-true q.volume.stripes q.stripe both.1))
+      by (inl f) (inr s) (inr e) = clash refl (ap tested-by.passes (sym (λ i. by-tests (f i) (s i) (e i)) ∙ h))
+
+  module _ (ok : tested-by.passes test ≡ true) where
+    past-tests : (fits q value t₀ ≡ true) × ((stops ≡ false) × (is_outside ≡ false))
+    past-tests = passed (fits q value t₀) stops is_outside ok
+
+    F : Fits q value t₀
+    F = fits-true q value t₀ past-tests.0
+
+    pub one-said : is_of_each_call q.call ≡ false → (a : Answer) (t : Lent) → Makes value t₀ q a t → Said q value t₀ a t
+    one-said f a t made =
+        let l : q.stripe < q.volume.stripes = leb-false q.volume.stripes q.stripe (sym (rw f) ∙ past-tests.1.1) in
+        one-stripe q value t₀ F l t a l (walked_one q F.small_is value F.given_fits t₀ F.fit l t a made) (asks-inside q value t₀ F f l)
+
+    pub each-said : is_of_each_call q.call ≡ true → (a : Answer) (t : Lent) → Turns q value t₀ q.volume.stripes t a → Said q value t₀ a t
+    each-said f a t turns =
+        each-stripe q value t₀ F (sym (each-is q value t₀ q.call) ∙ f) noone t a every
+        (walked q F.small_is value F.given_fits t₀ F.fit every turns every) (asks-each q value t₀ F f)
       where
-        fails : (is_failure_call q.call ≡ true) ⊎ (is_stop_call q.call ≡ true) → is_failure_call q.call ≡ true
-        fails (inl k) = k
-        fails (inr k) = clash k still
+        every : q.volume.stripes ≤ q.volume.stripes
+        every = omega arith
 
-        quiet : {x : Walk} → x ≡ walk_to q.volume q.call 0 q.volume.stripes Accepted → looks_of x ≡ false
-        quiet k = ap looks_of k ∙ ap (λ (b : Bool). b && ltb 0 q.volume.stripes) still
+        by : (is_stop_call q.call ≡ true) ⊎ (is_stop_call q.call ≡ false) → (is_failure_call q.call ≡ true) ⊎ (is_stop_call q.call ≡ true)
+            → (r : ℕ) → r < q.volume.stripes → refused_with 1 (step_at q value t₀ r) ≡ false
+        by (inl stop) k =
+            let c = stop-call q.call stop in
+            stop-noone q value t₀ F c.0 c.1 (asks-each q value t₀ F f)
+            (not-no (may_stop q t₀.nodes t₀.clients) (sym (ap (λ (b : Bool). b && not (may_stop q t₀.nodes t₀.clients)) stop) ∙ past-tests.1.0))
+        by (inr still) (inl fail) = let c = fail-call q.call fail in fail-noone q value t₀ F c.0 c.1
+        by (inr still) (inr stop) = clash stop still
 
-    single : fits q value t₀ ≡ true → Fits q value t₀ → is_of_each_call q.call ≡ false
-        → (leb q.volume.stripes q.stripe ≡ true) ⊎ (leb q.volume.stripes q.stripe ≡ false) → Said q value t₀ w.answer t
-    single e F f (inl out) =
-        nowhere q value t₀ OutOfRange (asks-outside q value t₀ F f (leb-true q.volume.stripes q.stripe out)) (begun q value t₀) w₁ w₂ w t
-        (begun-outside q value t₀ e f out) n c turns
-    single e F f (inr inside) =
-        let l : q.stripe < q.volume.stripes = leb-false q.volume.stripes q.stripe inside in
-        let start = begun-one q value t₀ e f inside in
-        let one = quiet-nodes nodes (begun q value t₀) w₁ (quiet start) n ∙ start in
-        let two = quiet-clients clients w₁ w₂ (quiet one) c ∙ one in
-        one-stripe q value t₀ F l w t w.answer
-        (all-turns q value t₀ F q.stripe (suc q.stripe) (omega (arith, l)) (omega arith) w₂ w t two turns ended) (asks-inside q value t₀ F f l)
-      where
-        quiet : {x : Walk} → x ≡ walk_to q.volume q.call q.stripe (suc q.stripe) Accepted → looks_of x ≡ false
-        quiet k = ap looks_of k ∙ ap (λ (b : Bool). b && ltb q.stripe (suc q.stripe)) (stop-each q value t₀ q.call f)
-
-    past : fits q value t₀ ≡ true → Fits q value t₀ → (is_of_each_call q.call ≡ true) ⊎ (is_of_each_call q.call ≡ false) → Said q value t₀ w.answer t
-    past e F (inl f) = each e F f (bool_cases (is_stop_call q.call))
-    past e F (inr f) = single e F f (bool_cases (leb q.volume.stripes q.stripe))
-
-    by : (fits q value t₀ ≡ true) ⊎ (fits q value t₀ ≡ false) → Said q value t₀ w.answer t
-    by (inl e) = past e (fits-true q value t₀ e) (bool_cases (is_of_each_call q.call))
-    by (inr e) = nowhere q value t₀ OutOfLimits (fits-false q value t₀ e) (begun q value t₀) w₁ w₂ w t (begun-refused q value t₀ e) n c turns
+        noone : (r : ℕ) → r < q.volume.stripes → refused_with 1 (step_at q value t₀ r) ≡ false
+        noone = by (bool_cases (is_stop_call q.call)) (or-one (is_failure_call q.call) (is_stop_call q.call) f)

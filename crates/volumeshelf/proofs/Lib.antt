@@ -1,6 +1,5 @@
 pub mod Called
 pub mod Fits
-pub mod Looked
 pub mod OnParts
 pub mod Parts
 pub mod Ranges
@@ -9,5 +8,4 @@ pub mod Renewed
 pub mod Stops
 pub mod Turn
 pub mod Walked
-pub mod Ways
-pub mod Going
+pub mod Tested

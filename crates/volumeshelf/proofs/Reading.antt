@@ -1,20 +1,21 @@
 -- What a read of a volume says, from the read of a stripe's parts. Assumes nothing.
 use mathlib.Core.Bool.{Bool, true, false, cond, ◌&&◌, not, and-true}
 use mathlib.Core.List.{List}
-use mathlib.Core.Path.{◌≡◌, refl, sym, ap, ◌∙◌, subst, transport}
+use mathlib.Core.Path.{◌≡◌, refl, sym, ap, ◌∙◌, subst}
 use Prim.Native.Nat.{ℕ, ◌*◌, ◌<◌}
 use native.Mathlib.Nat.{mul-le-mul}
 use native.Mathlib.Omega.{arith}
 use lib.Dec.{eqb, leb, ltb}
 use lib.ListN.{length, length-map}
 use borrow.Author.Tests.{eq-eqb, eqb-true, le-ltb, leb-false, leb-true, lt-ltb}
-use Rattle.basics.proofs.Tests.{and_left, and_right}
+use Rattle.std.specs.Prelude.{Err, Ok, Result}
+use Rattle.basics.proofs.Tests.{and_left, and_right, clash}
 use Rattle.calls.specs.declared.Answer.{Answer}
-use Rattle.calls.specs.declared.Answer.TheVariants.{Accepted, Refused}
+use Rattle.calls.specs.declared.Answer.TheVariants.{Refused}
 use Rattle.calls.specs.Answers.{answer_of, read_as, shown_part}
 use Rattle.machine.specs.Calls.{Read, step}
 use Rattle.machine.specs.Stripe.{Outcome, Stripe, answered, guard}
-use Rattle.parts.specs.Inside.{Range, cut, part_in}
+use Rattle.parts.specs.Inside.{part_in}
 use Rattle.records.specs.declared.ClientRecord.{ClientRecord}
 use Rattle.records.specs.declared.NodeRecord.{NodeRecord}
 use Rattle.records.specs.declared.Refusal.{Refusal}
@@ -28,22 +29,15 @@ use Rattle.taking.specs.Reads.{AnswersLent}
 use Rattle.volume.specs.Volume as Machine
 use Rattle.volume.specs.Volume.{on, on_one, put_stripe, stripe_at, volume_step}
 use Rattle.volume.proofs.Steps.{put-itself}
-use Rattle.routing.specs.declared.ReadWalk.{ReadWalk}
 use Rattle.routing.specs.declared.SizedRead.{SizedRead}
 use Rattle.tables.specs.declared.Volume.{Volume}
 use Rattle.tables.specs.Parts.{part_of, table_blocks, volume_within}
 use Rattle.volumeshelf.specs.Volumes.{AnswersVolume, of_stripe, reading, volume_in}
-use Rattle.routing.specs.Walks.{read_after_of, read_begun_of, read_fits, read_request_of, read_walk, shown_of}
+use Rattle.routing.specs.Walks.{read_fits, read_request_of, read_tested, shown_of}
 use Rattle.tables.proofs.Within.{Small, blocks-table, small}
 use Rattle.volumeshelf.proofs.Ranges.{part-is}
+use Rattle.volumeshelf.proofs.Tested.{passes, refusal_of}
 use Rattle.volumeshelf.proofs.Turn.{Lent, stripe-at, stripe-count, stripe-length}
-
--- the parts that are looked at
-abbrev pub read_nodes : ReadWalk → ℕ → Range
-read_nodes t len = part_of t.at t.volume.z.n len
-
-abbrev pub read_clients : ReadWalk → ℕ → Range
-read_clients t len = part_of t.at t.volume.z.m len
 
 -- ---- the volume's own tests
 
@@ -179,46 +173,39 @@ module _ (q : SizedRead) (nodes : List NodeRecord) (clients : List ClientRecord)
           ∙ ap (λ o. answered o.answer (put_stripe s o.after tables)) (own ∙ steps-own ∙ ap (step z (Read q.i)) (sym its-is))
           ∙ sym (reading-is ∙ rw (fits, lt-ltb s v.stripes h) refl)
 
--- ---- all three
+-- ---- all of it, by what the tests answer
 
-pub answers : (nodes : List NodeRecord) (clients : List ClientRecord) (q : SizedRead) (t : ReadWalk) → t ≡ read_begun_of q (length nodes) (length clients)
-    → (x : taking.SizedRead) → x ≡ read_request_of t → (r : Answer)
-    → AnswersLent (part_in (read_nodes t (length nodes)) nodes) (part_in (read_clients t (length clients)) clients) x r → (u : Answer) → u ≡ read_after_of t r
-    → AnswersVolume nodes clients q u
-unfolding guard
-answers nodes clients q t begun x asked r went u after blocks spare differences eb es =
-    by (read_fits q (length nodes) (length clients)) (leb q.volume.stripes q.stripe) refl refl begun
-  where
-    is : reading q.volume q.stripe q.i nodes clients blocks spare differences
-        ≡ guard (not (read_fits q (length nodes) (length clients))) OutOfLimits (tables q nodes clients blocks spare differences eb es)
-        (in-range q nodes clients blocks spare differences eb es)
-    is = reading-is q nodes clients blocks spare differences eb es
+module _ (nodes : List NodeRecord) (clients : List ClientRecord) (q : SizedRead) where
+  abbrev test : Result (Unit {0}) Refusal
+  test = read_tested q (length nodes) (length clients)
 
-    -- what shelf was asked, on its parts
-    Went : ReadWalk → taking.SizedRead → Type 0
-    Went y x' = AnswersLent (part_in (read_nodes y (length nodes)) nodes) (part_in (read_clients y (length clients)) clients) x' r
+  pub read-refused : (why : Refusal) → test ≡ Err why → AnswersVolume nodes clients q (Refused why)
+  unfolding guard
+  read-refused why h blocks spare differences eb es = by (read_fits q (length nodes) (length clients)) (leb q.volume.stripes q.stripe) refl refl
+    where
+      Said : Refusal → Type 0
+      Said w = answered (answer_of (Refused w) (shown_of q (Refused w) blocks spare)) (volume_in q.volume nodes clients blocks spare differences)
+          ≡ reading q.volume q.stripe q.i nodes clients blocks spare differences
 
-    went-as : (y : ReadWalk) → t ≡ y → Went y (read_request_of y)
-    went-as y w = subst (λ y'. Went y' (read_request_of y')) w (subst (Went t) asked went)
+      said-as : (other : Refusal) → test ≡ Err other → Said other → Said why
+      said-as other e said = subst Said (ap refusal_of (sym e ∙ h)) said
 
-    Said : Type 0
-    Said = answered (answer_of u (shown_of q u blocks spare)) (volume_in q.volume nodes clients blocks spare differences)
-        ≡ reading q.volume q.stripe q.i nodes clients blocks spare differences
+      by : (f g : Bool) → read_fits q (length nodes) (length clients) ≡ f → leb q.volume.stripes q.stripe ≡ g → Said why
+      by false g e l = said-as OutOfLimits (rw e) (sym (reading-is q nodes clients blocks spare differences eb es ∙ rw e refl))
+      by true true e l =
+          said-as OutOfRange (rw (e, l))
+          (sym (reading-is q nodes clients blocks spare differences eb es ∙ rw (e, le-ltb q.stripe q.volume.stripes (leb-true q.volume.stripes q.stripe l)) refl))
+      by true false e l = let ok : test ≡ Ok tt = rw (e, l) in clash refl (ap passes (sym ok ∙ h))
 
-    by : (f g : Bool) → read_fits q (length nodes) (length clients) ≡ f → leb q.volume.stripes q.stripe ≡ g
-        → t ≡ cond f (cond g (read_walk q.volume q.i 0 false (Refused OutOfRange)) (read_walk q.volume q.i q.stripe true Accepted))
-        (read_walk q.volume q.i 0 false (Refused OutOfLimits)) → Said
-    by false g e l w = rw (after, w) (sym (is ∙ rw e refl))
-    by true true e l w = rw (after, w) (sym (is ∙ rw (e, le-ltb q.stripe q.volume.stripes (leb-true q.volume.stripes q.stripe l)) refl))
-    by true false e l w = rw (after, w) (stripe-read q nodes clients blocks spare differences eb es e (leb-false q.volume.stripes q.stripe l) r
-        (went-as (read_walk q.volume q.i q.stripe true Accepted) w))
-
--- the same, of parts that begin and end there
-pub answers-at : (nodes : List NodeRecord) (clients : List ClientRecord) (q : SizedRead) (t : ReadWalk) → t ≡ read_begun_of q (length nodes) (length clients)
-    → (x : taking.SizedRead) → x ≡ read_request_of t → (r : Answer) {a0 e0 a1 e1 : ℕ}
-    → a0 ≡ (read_nodes t (length nodes)).first → e0 ≡ (read_nodes t (length nodes)).end
-    → a1 ≡ (read_clients t (length clients)).first → e1 ≡ (read_clients t (length clients)).end
-    → AnswersLent (cut a0 e0 nodes) (cut a1 e1 clients) x r → (u : Answer) → u ≡ read_after_of t r → AnswersVolume nodes clients q u
-answers-at nodes clients q t begun x asked r from-n to-n from-c to-c went u after =
-    answers nodes clients q t begun x asked r
-    (transport (λ i. AnswersLent (cut (from-n i) (to-n i) nodes) (cut (from-c i) (to-c i) clients) x r) went) u after
+  pub read-said : passes test ≡ true → (r : Answer)
+      → AnswersLent (part_in (part_of q.stripe q.volume.z.n (length nodes)) nodes) (part_in (part_of q.stripe q.volume.z.m (length clients)) clients)
+      (read_request_of q) r
+      → AnswersVolume nodes clients q r
+  read-said h r went blocks spare differences eb es = by (read_fits q (length nodes) (length clients)) (leb q.volume.stripes q.stripe) refl refl
+    where
+      by : (f g : Bool) → read_fits q (length nodes) (length clients) ≡ f → leb q.volume.stripes q.stripe ≡ g
+          → answered (answer_of r (shown_of q r blocks spare)) (volume_in q.volume nodes clients blocks spare differences)
+          ≡ reading q.volume q.stripe q.i nodes clients blocks spare differences
+      by false g e l = let no : test ≡ Err OutOfLimits = rw e in clash h (ap passes no)
+      by true true e l = let no : test ≡ Err OutOfRange = rw (e, l) in clash h (ap passes no)
+      by true false e l = stripe-read q nodes clients blocks spare differences eb es e (leb-false q.volume.stripes q.stripe l) r went

@@ -40,21 +40,6 @@ use Rattle.routing.specs.Walks.{is_place_of}
 use Rattle.volumeshelf.proofs.Ranges.{fits_in}
 use Rattle.volumeshelf.proofs.Turn.{stripe-length}
 
--- every number before n passes, or one does not
-pub one_of : (n : ℕ) (f : ℕ → Bool) → ((i : ℕ) → i < n → f i ≡ false) ⊎ ((i : ℕ) × ((i < n) × (f i ≡ true)))
-one_of zero f = inl (λ i l. absurd (omega (arith, l)))
-one_of (suc n) f = by (f n) refl (one_of n f)
-  where
-    by : (b : Bool) → f n ≡ b → ((i : ℕ) → i < n → f i ≡ false) ⊎ ((i : ℕ) × ((i < n) × (f i ≡ true)))
-        → ((i : ℕ) → i < suc n → f i ≡ false) ⊎ ((i : ℕ) × ((i < suc n) × (f i ≡ true)))
-    by true e r = inr (n, (omega arith, e))
-    by false e (inr r) = inr (r.0, (omega (arith, r.1.0), r.1.1))
-    by false e (inl r) = inl (λ i l. at i l (ℕ_discrete i n))
-      where
-        at : (i : ℕ) → i < suc n → Dec (i ≡ n) → f i ≡ false
-        at i l (yes q) = ap f q ∙ e
-        at i l (no q) = r i (omega (arith, l, q))
-
 every_of_lem : {X : Type 0} (p : X → Bool) (l : List X) (d : X) → ((j : ℕ) → j < length l → p (get_or l j d) ≡ true) → every_of p l ≡ true
 unfolding every_of
 every_of_lem p [] d h = refl

@@ -22,8 +22,6 @@ use Rattle.machine.specs.Calls as Calls
 use Rattle.machine.specs.Stripe.{Stripe, answered, guard}
 use Rattle.machine.proofs.Refusals.{refusals-same}
 use Rattle.parts.specs.Inside.{Only, part_in}
-use Rattle.parts.specs.Turns as turns
-use Rattle.parts.specs.Turns.{Tables}
 use Rattle.records.specs.declared.ClientRecord.{ClientRecord}
 use Rattle.records.specs.declared.NodeRecord.{NodeRecord}
 use Rattle.shelf.specs.Shelf.{PicksOnly, StepsLent}
@@ -35,20 +33,20 @@ use Rattle.volume.specs.Volume.{call_in, given_fits, no_stripe, stripe_at}
 use Rattle.tables.specs.declared.Volume.{Volume}
 use Rattle.routing.specs.declared.VolumeCall.{VolumeCall}
 use Rattle.routing.specs.declared.VolumeCall.TheVariants.{Pick, Step}
-use Rattle.routing.specs.declared.Walk.{Walk}
-use Rattle.volumeshelf.specs.Entry.{OnParts, PicksPart, StepsPart, value_part}
+use Rattle.routing.specs.declared.Request.{Request}
+use Rattle.volumeshelf.specs.Entry.{Makes, OnParts, PicksPart, StepsPart, Tables, value_part}
 use Rattle.tables.specs.Parts.{part_most, part_of, table_blocks, table_differences}
 use Rattle.volumeshelf.specs.Volumes.{call_of, of_stripe, volume_in}
-use Rattle.routing.specs.Walks.{pick_request_of, picks_of, step_for, step_request_of, walk_to}
+use Rattle.routing.specs.Walks.{pick_request_of, step_for, step_request_of}
 use Rattle.tables.proofs.Within.{Small, blocks-table, differences-table}
 use Rattle.volumeshelf.proofs.Ranges.{fits_in, others_same, part-is, table_same}
 
 abbrev pub Lent : Type 0
-Lent = Tables NodeRecord ClientRecord
+Lent = Tables
 
--- what the contract of a turn says, by whether it is a pick
-abbrev pub Makes : List ℕ → Lent → Walk → Answer → Lent → Type 0
-Makes = turns.Makes picks_of PicksPart StepsPart
+-- the call on stripe s
+abbrev pub on_stripe : Volume → VolumeCall → ℕ → Request
+on_stripe v call s = record { volume = v; stripe = s; call = call }
 
 -- the tables have their lengths
 pub record Fit (v : Volume) (t : Lent) : Type 0 where
@@ -179,18 +177,18 @@ module _ (v : Volume) (small : Small v) (s : ℕ) (in-range : s < v.stripes) whe
   abbrev value_fits : Call → Type 0
   value_fits call = given_fits v.z v.stripes call ≡ true
 
-  asked : (call : StepCall) (value : List ℕ) (end : ℕ) (answer : Answer) → value_fits (step_of call value)
-      → step_of (step_for call v.z.n s) (part_in (value_part (walk_to v (Step call) s end answer) (length value)) value) ≡ call_in v.z s (step_of call value)
-  asked (Swap c i) value end answer fits = ap (λ (x : List ℕ). Calls.Swap c i x) (whole-value value)
-  asked (Fail card) value end answer fits = ap (λ (x : List ℕ). Calls.Fail (node_for v.z.n s card) x) (card-value value (eqb-true (length value) (v.stripes * v.z.b) fits))
-  asked (Due j) value end answer fits = refl
-  asked Tick value end answer fits = refl
-  asked (At op c j) value end answer fits = refl
-  asked (By op c) value end answer fits = refl
+  asked : (call : StepCall) (value : List ℕ) → value_fits (step_of call value)
+      → step_of (step_for call v.z.n s) (part_in (value_part (on_stripe v (Step call) s) (length value)) value) ≡ call_in v.z s (step_of call value)
+  asked (Swap c i) value fits = ap (λ (x : List ℕ). Calls.Swap c i x) (whole-value value)
+  asked (Fail card) value fits = ap (λ (x : List ℕ). Calls.Fail (node_for v.z.n s card) x) (card-value value (eqb-true (length value) (v.stripes * v.z.b) fits))
+  asked (Due j) value fits = refl
+  asked Tick value fits = refl
+  asked (At op c j) value fits = refl
+  asked (By op c) value fits = refl
 
   -- ---- the turn
 
-  module _ (t t' : Lent) (fit : Fit v t) (value : List ℕ) (end : ℕ) (before a : Answer) where
+  module _ (t t' : Lent) (fit : Fit v t) (value : List ℕ) (a : Answer) where
     tables : table_blocks v.z ≡ v.z.n * v.z.b
     tables = blocks-table v.z small.n small.b
 
@@ -202,8 +200,8 @@ module _ (v : Volume) (small : Small v) (s : ℕ) (in-range : s < v.stripes) whe
     Blocks each xs xs' = Only (part_of s each (length xs)) xs xs'
 
     module _ {Q : Type 0} (R : List NodeRecord → List ClientRecord → List ℕ → List ℕ → List ℕ → List ℕ → Q → Answer
-        → List NodeRecord → List ClientRecord → List ℕ → List ℕ → List ℕ → Type 0) (ask : Walk → Q) (call : VolumeCall)
-        (made : OnParts R ask t.nodes t.clients t.blocks t.spare t.differences value (walk_to v call s end before) a
+        → List NodeRecord → List ClientRecord → List ℕ → List ℕ → List ℕ → Type 0) (ask : Q) (call : VolumeCall)
+        (made : OnParts R ask t.nodes t.clients t.blocks t.spare t.differences value (on_stripe v call s) a
         t'.nodes t'.clients t'.blocks t'.spare t'.differences) where
       only-b : Blocks (v.z.n * v.z.b) t.blocks t'.blocks
       only-b = subst (λ (each : ℕ). Blocks each t.blocks t'.blocks) tables made.1.1.1.0
@@ -225,7 +223,7 @@ module _ (v : Volume) (small : Small v) (s : ℕ) (in-range : s < v.stripes) whe
       -- on the stripe's own tables
       said_of : R (of_stripe s v.z.n t.nodes) (of_stripe s v.z.m t.clients) (of_stripe s (v.z.n * v.z.b) t.blocks)
           (of_stripe s (v.z.n * v.z.b) t.spare) (of_stripe s (v.z.m * v.z.b) t.differences)
-          (part_in (value_part (walk_to v call s end before) (length value)) value) (ask (walk_to v call s end before)) a
+          (part_in (value_part (on_stripe v call s) (length value)) value) ask a
           (of_stripe s v.z.n t'.nodes) (of_stripe s v.z.m t'.clients) (of_stripe s (v.z.n * v.z.b) t'.blocks)
           (of_stripe s (v.z.n * v.z.b) t'.spare) (of_stripe s (v.z.m * v.z.b) t'.differences)
       said_of = transport (λ i. R
@@ -234,7 +232,7 @@ module _ (v : Volume) (small : Small v) (s : ℕ) (in-range : s < v.stripes) whe
           (blocks-lent t.blocks fit.blocks t.blocks i)
           (blocks-lent t.spare fit.spare t.spare i)
           (differences-lent t.differences fit.differences t.differences i)
-          (part_in (value_part (walk_to v call s end before) (length value)) value) (ask (walk_to v call s end before)) a
+          (part_in (value_part (on_stripe v call s) (length value)) value) ask a
           (lent_is v.z.n n-small t.nodes fit.nodes t'.nodes i)
           (lent_is v.z.m m-small t.clients fit.clients t'.clients i)
           (blocks-lent t.blocks fit.blocks t'.blocks i)
@@ -242,17 +240,17 @@ module _ (v : Volume) (small : Small v) (s : ℕ) (in-range : s < v.stripes) whe
           (differences-lent t.differences fit.differences t'.differences i)) made.0
 
     step-turned : (call : StepCall) → value_fits (step_of call value)
-        → StepsPart t.nodes t.clients t.blocks t.spare t.differences value (walk_to v (Step call) s end before) a
-        t'.nodes t'.clients t'.blocks t'.spare t'.differences
+        → StepsPart t.nodes t.clients t.blocks t.spare t.differences value (on_stripe v (Step call) s) a
+        t'.nodes t'.clients t'.blocks t'.spare t'.differences call
         → Turned v (step_of call value) s t a t'
     step-turned call fits made =
-        let m = said_of StepsLent step_request_of (Step call) made in
-        let b = only-b StepsLent step_request_of (Step call) made in
-        let p = only-s StepsLent step_request_of (Step call) made in
-        let d = only-d StepsLent step_request_of (Step call) made in
+        let m = said_of StepsLent (step_request_of (on_stripe v (Step call) s) call) (Step call) made in
+        let b = only-b StepsLent (step_request_of (on_stripe v (Step call) s) call) (Step call) made in
+        let p = only-s StepsLent (step_request_of (on_stripe v (Step call) s) call) (Step call) made in
+        let d = only-d StepsLent (step_request_of (on_stripe v (Step call) s) call) (Step call) made in
         record {
           fit = fit-after t t' fit made.1.0 made.1.1.0 b p d;
-          said = m.said ∙ on-stripe t fit _ ∙ ap (λ (x : Call). step v.z x (stripe_of v t s)) (asked call value end before fits);
+          said = m.said ∙ on-stripe t fit _ ∙ ap (λ (x : Call). step v.z x (stripe_of v t s)) (asked call value fits);
           others = others-after t t' fit made.1.0 made.1.1.0 b p d;
           left = left-map a (λ same. same_after t t' fit made.1.0 made.1.1.0 b p d same.0 same.1.0 same.1.1.0 same.1.1.1.0 same.1.1.1.1) m.left;
         }
@@ -261,20 +259,20 @@ module _ (v : Volume) (small : Small v) (s : ℕ) (in-range : s < v.stripes) whe
     abbrev Picks : ℕ → Type 0
     Picks c = PicksOnly (of_stripe s v.z.n t.nodes) (of_stripe s v.z.m t.clients) (of_stripe s (v.z.n * v.z.b) t.blocks)
         (of_stripe s (v.z.n * v.z.b) t.spare) (of_stripe s (v.z.m * v.z.b) t.differences)
-        (part_in (value_part (walk_to v (Pick c) s end before) (length value)) value) (record { z = v.z; c = c }) a
+        (part_in (value_part (on_stripe v (Pick c) s) (length value)) value) (record { z = v.z; c = c }) a
         (of_stripe s v.z.n t'.nodes) (of_stripe s v.z.m t'.clients) (of_stripe s (v.z.n * v.z.b) t'.blocks)
         (of_stripe s (v.z.n * v.z.b) t'.spare) (of_stripe s (v.z.m * v.z.b) t'.differences)
 
     -- a pick writes the spare alone, and refused so leaves it
     pick-turned : (c : ℕ)
-        → PicksPart t.nodes t.clients t.blocks t.spare t.differences value (walk_to v (Pick c) s end before) a
-        t'.nodes t'.clients t'.blocks t'.spare t'.differences
+        → PicksPart t.nodes t.clients t.blocks t.spare t.differences value (on_stripe v (Pick c) s) a
+        t'.nodes t'.clients t'.blocks t'.spare t'.differences c
         → Turned v (Calls.Pick c) s t a t'
     pick-turned c made =
-        let m = said_of PicksOnly pick_request_of (Pick c) made in
-        let b = only-b PicksOnly pick_request_of (Pick c) made in
-        let p = only-s PicksOnly pick_request_of (Pick c) made in
-        let d = only-d PicksOnly pick_request_of (Pick c) made in
+        let m = said_of PicksOnly (pick_request_of (on_stripe v (Pick c) s) c) (Pick c) made in
+        let b = only-b PicksOnly (pick_request_of (on_stripe v (Pick c) s) c) (Pick c) made in
+        let p = only-s PicksOnly (pick_request_of (on_stripe v (Pick c) s) c) (Pick c) made in
+        let d = only-d PicksOnly (pick_request_of (on_stripe v (Pick c) s) c) (Pick c) made in
         let meets = m.1.1 (of_stripe s (v.z.m * v.z.b) t.differences) in
         record {
           fit = fit-after t t' fit made.1.0 made.1.1.0 b p d;
@@ -296,7 +294,7 @@ module _ (v : Volume) (small : Small v) (s : ℕ) (in-range : s < v.stripes) whe
             (sym (ap (λ o. o.answer) (picked m)) ∙ ap (λ x. answer_of x []) refused.is) refused.unchanged)
 
   -- whichever it is
-  pub turned : (call : VolumeCall) (t t' : Lent) (value : List ℕ) (end : ℕ) (before a : Answer) → Fit v t → value_fits (call_of call value)
-      → Makes value t (walk_to v call s end before) a t' → Turned v (call_of call value) s t a t'
-  turned (Pick c) t t' value end before a fit fits made = pick-turned t t' fit value end before a c made
-  turned (Step call) t t' value end before a fit fits made = step-turned t t' fit value end before a call fits made
+  pub turned : (call : VolumeCall) (t t' : Lent) (value : List ℕ) (a : Answer) → Fit v t → value_fits (call_of call value)
+      → Makes value t (on_stripe v call s) a t' → Turned v (call_of call value) s t a t'
+  turned (Pick c) t t' value a fit fits made = pick-turned t t' fit value a c made
+  turned (Step call) t t' value a fit fits made = step-turned t t' fit value a call fits made

@@ -3,27 +3,26 @@
 use mathlib.Core.Bool.{true, false}
 use mathlib.Core.List.{List, []}
 use mathlib.Core.Path.{◌≡◌, refl, sym, ap, subst, ◌∙◌}
-use Prim.Native.Nat.{ℕ, suc, ◌≤◌, ◌<◌}
+use Prim.Native.Nat.{ℕ, suc, ◌+◌, ◌≤◌, ◌<◌}
 use native.Mathlib.Decide.{ℕ_discrete}
 use native.Mathlib.Omega.{arith}
-use borrow.Author.Tests.{ltb-true}
 use Rattle.calls.specs.declared.Answer.{Answer}
 use Rattle.calls.specs.declared.Answer.TheVariants.{Accepted, Shown, Added, Done, Rebuilt, Told, Refused}
 use Rattle.calls.specs.Answers.{Left, answer_of}
 use Rattle.machine.specs.Calls.{step}
 use Rattle.machine.specs.Stripe as Machine
 use Rattle.machine.specs.Stripe.{Outcome, Stripe, answered}
-use Rattle.parts.specs.Turns.{Turns, none, more}
 use Rattle.records.specs.declared.Refusal.{Refusal}
 use Rattle.records.specs.Refusals.{changes}
 use Rattle.volume.specs.Volume.{call_in, given_fits}
 use Rattle.tables.specs.declared.Volume.{Volume}
 use Rattle.routing.specs.declared.VolumeCall.{VolumeCall}
-use Rattle.routing.specs.declared.Walk.{Walk}
+use Rattle.routing.specs.declared.Request.{Request}
 use Rattle.volumeshelf.specs.Volumes.{call_of}
-use Rattle.routing.specs.Walks.{after_of, goes_on, walk_to}
 use Rattle.tables.proofs.Within.{Small}
-use Rattle.volumeshelf.proofs.Turn.{Fit, Lent, Makes, Turned, stripe_of, turned}
+use Rattle.routing.specs.Walks.{at_stripe}
+use Rattle.volumeshelf.specs.Entry.{Makes, Turns, none, more}
+use Rattle.volumeshelf.proofs.Turn.{Fit, Lent, Turned, stripe_of, turned}
 
 -- a refusal that leaves all unchanged
 pub record Unchanged (x : Machine.Answer) : Type 0 where
@@ -95,23 +94,26 @@ module _ (v : Volume) (small : Small v) (call : VolumeCall) (value : List ℕ) (
           let d = S.done r b (omega (arith, c, q)) in
           (d.0, ap (answered (answer_of d.0 [])) (T.others r q) ∙ d.1)
 
-  -- where the turns have led
-  pub record Walked (w : Walk) (t : Lent) : Type 0 where
-    pub u : ℕ
-    pub last : Answer
-    pub is : w ≡ walk_to v call u e last
-    pub sofar : Sofar u t last
+-- the calls on the stripes before s, from stripe 0 on
+module _ (q : Request) (small : Small q.volume) (value : List ℕ) (fits : given_fits q.volume.z q.volume.stripes (call_of q.call value) ≡ true)
+    (t₀ : Lent) (fit₀ : Fit q.volume t₀) where
+  pub walked : (e-in : q.volume.stripes ≤ q.volume.stripes) {s : ℕ} {t : Lent} {a : Answer} → Turns q value t₀ s t a → s ≤ q.volume.stripes
+      → Sofar q.volume small q.call value fits t₀ fit₀ 0 q.volume.stripes e-in s t a
+  walked e-in none l = begun q.volume small q.call value fits t₀ fit₀ 0 q.volume.stripes e-in (omega arith)
+  walked e-in (more {s = s} {t = y} {a = a} {a' = b} {t' = z} T made) l =
+      let S = walked e-in T (omega (arith, l)) in
+      turn q.volume small q.call value fits t₀ fit₀ 0 q.volume.stripes e-in s y z a b S l
+      (turned q.volume small s l q.call y z value b S.fit fits made)
 
-  pub walked : u₀ ≤ e → (w₀ : Walk) → w₀ ≡ walk_to v call u₀ e Accepted → (w : Walk) (t : Lent) → Turns goes_on (Makes value) after_of w₀ t₀ w t → Walked w t
-  walked l w₀ start w t none = record { u = u₀; last = Accepted; is = start; sofar = begun l }
-  walked l w₀ start w t (more {w = x} {t = y} {a = a} {t' = z} T goes made) =
-      let W = walked l w₀ start x y T in
-      let far : W.u < e = ltb-true W.u e (ap goes_on (sym W.is) ∙ goes) in
-      record {
-        u = suc W.u;
-        last = a;
-        is = ap (λ (k : Walk). after_of k a) W.is ∙ rw (sym (ap goes_on W.is) ∙ goes);
-        sofar = turn W.u y t W.last a W.sofar far
-            (turned v small W.u (omega (arith, far, e-in)) call y t value e W.last a W.sofar.fit fits
-            (subst (λ (k : Walk). Makes value y k a t) W.is made));
-      }
+  -- the call on its stripe alone
+  pub walked_one : (e-in : suc q.stripe ≤ q.volume.stripes) (t : Lent) (a : Answer) → Makes value t₀ q a t
+      → Sofar q.volume small q.call value fits t₀ fit₀ q.stripe (suc q.stripe) e-in (suc q.stripe) t a
+  walked_one e-in t a made =
+      turn q.volume small q.call value fits t₀ fit₀ q.stripe (suc q.stripe) e-in q.stripe t₀ t Accepted a
+      (begun q.volume small q.call value fits t₀ fit₀ q.stripe (suc q.stripe) e-in (omega arith)) (omega arith)
+      (turned q.volume small q.stripe e-in q.call t₀ t value a fit₀ fits made)
+
+pub one-more : (q : Request) (value : List ℕ) (t₀ : Lent) {s : ℕ} {t : Lent} {a : Answer} → Turns q value t₀ s t a → (x : Request) → x ≡ at_stripe q s
+    → (b : Answer) (t' : Lent) → Makes value t x b t' → Turns q value t₀ (s + 1) t' b
+one-more q value t₀ {t = t} T x is b t' made =
+    subst (λ (k : ℕ). Turns q value t₀ k t' b) (omega arith) (more T (subst (λ (y : Request). Makes value t y b t') is made))

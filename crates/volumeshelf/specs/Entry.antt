@@ -1,72 +1,83 @@
--- What the loops over the tables and the calls on one stripe's parts say. Assumes nothing.
-use Rattle.std.specs.Prelude.{cond, not, ◌&&◌, List, ◌≡◌, ℕ, ◌≤◌, get_or, length}
+-- What the calls on one stripe's parts say, and those on every stripe. Assumes nothing.
+use Rattle.std.specs.Prelude.{List, ℕ, suc, length}
 use Rattle.calls.specs.declared.Answer.{Answer}
+use Rattle.calls.specs.declared.Answer.TheVariants.{Accepted}
+use Rattle.calls.specs.declared.StepCall.{StepCall}
 use Rattle.parts.specs.Inside.{Inside, Range}
-use Rattle.parts.specs.Turns.{Gone}
 use Rattle.records.specs.declared.ClientRecord.{ClientRecord}
 use Rattle.records.specs.declared.NodeRecord.{NodeRecord}
-use Rattle.records.specs.Client.{client_within}
-use Rattle.records.specs.Node.{node_within}
-use Rattle.records.specs.View.{client_of, node_of}
 use Rattle.shelf.specs.Shelf.{PicksOnly, StepsLent}
-use Rattle.step.specs.View.{blank_client}
-use Rattle.stripe.specs.View.{blank_record}
-use Rattle.routing.specs.declared.Walk.{Walk}
-use Rattle.routing.specs.Walks.{Looks, after_of, client_end, goes_on, is_place_of, node_end, pick_request_of, picks_of, step_request_of, stopping_of, value_from, value_to}
+use Rattle.routing.specs.declared.Request.{Request}
+use Rattle.routing.specs.declared.VolumeCall.{VolumeCall}
+use Rattle.routing.specs.declared.VolumeCall.TheVariants.{Pick, Step}
+use Rattle.routing.specs.Walks.{at_stripe, pick_request_of, step_request_of, value_from, value_to}
 use Rattle.tables.specs.Parts.{part_of, table_blocks, table_differences}
 
--- every node's record, and the client's in every stripe
-abbrev pub NodesLooked : List NodeRecord → Walk → Walk → Type 0
-NodesLooked nodes w r = node_end w ≤ length nodes → Looks (node_end w) (λ i. not (node_within w.volume.z (node_of (get_or nodes i blank_record)))) w r
+-- the parts of the call's stripe: nodes, clients, a table of blocks, differences; and the bytes that are its own
+abbrev pub nodes_part : Request → ℕ → Range
+nodes_part q len = part_of q.stripe q.volume.z.n len
 
-abbrev pub ClientsLooked : List ClientRecord → Walk → Walk → Type 0
-ClientsLooked clients w r =
-    client_end w ≤ length clients → Looks (client_end w)
-    (λ i. is_place_of w.volume.z.m (stopping_of w.call) i && not (client_within w.volume.z (client_of (get_or clients i blank_client)))) w r
+abbrev pub clients_part : Request → ℕ → Range
+clients_part q len = part_of q.stripe q.volume.z.m len
 
--- the parts of the stripe that the call has come to: nodes, clients, a table of blocks, differences; and the bytes that are its own
-abbrev pub nodes_part : Walk → ℕ → Range
-nodes_part w len = part_of w.at w.volume.z.n len
+abbrev pub blocks_part : Request → ℕ → Range
+blocks_part q len = part_of q.stripe (table_blocks q.volume.z) len
 
-abbrev pub clients_part : Walk → ℕ → Range
-clients_part w len = part_of w.at w.volume.z.m len
+abbrev pub differences_part : Request → ℕ → Range
+differences_part q len = part_of q.stripe (table_differences q.volume.z) len
 
-abbrev pub blocks_part : Walk → ℕ → Range
-blocks_part w len = part_of w.at (table_blocks w.volume.z) len
-
-abbrev pub differences_part : Walk → ℕ → Range
-differences_part w len = part_of w.at (table_differences w.volume.z) len
-
-abbrev pub value_part : Walk → ℕ → Range
-value_part w len = record { first = value_from w len; end = value_to w len }
+abbrev pub value_part : Request → ℕ → Range
+value_part q len = record { first = value_from q len; end = value_to q len }
 
 module _ {Q : Type 0}
     (R : List NodeRecord → List ClientRecord → List ℕ → List ℕ → List ℕ → List ℕ → Q → Answer
     → List NodeRecord → List ClientRecord → List ℕ → List ℕ → List ℕ → Type 0)
-    (asked : Walk → Q) where
-  abbrev pub OnParts : List NodeRecord → List ClientRecord → List ℕ → List ℕ → List ℕ → List ℕ → Walk → Answer
+    (asked : Q) where
+  abbrev pub OnParts : List NodeRecord → List ClientRecord → List ℕ → List ℕ → List ℕ → List ℕ → Request → Answer
       → List NodeRecord → List ClientRecord → List ℕ → List ℕ → List ℕ → Type 0
-  OnParts nodes clients blocks spare differences value w answer nodes' clients' blocks' spare' differences' =
-      Inside R (nodes_part w (length nodes)) (clients_part w (length clients)) (blocks_part w (length blocks)) (blocks_part w (length spare))
-      (differences_part w (length differences)) (value_part w (length value))
-      nodes clients blocks spare differences value (asked w) answer nodes' clients' blocks' spare' differences'
-
-abbrev pub StepsPart : List NodeRecord → List ClientRecord → List ℕ → List ℕ → List ℕ → List ℕ → Walk → Answer
-    → List NodeRecord → List ClientRecord → List ℕ → List ℕ → List ℕ → Type 0
-StepsPart = OnParts StepsLent step_request_of
-
-abbrev pub PicksPart : List NodeRecord → List ClientRecord → List ℕ → List ℕ → List ℕ → List ℕ → Walk → Answer
-    → List NodeRecord → List ClientRecord → List ℕ → List ℕ → List ℕ → Type 0
-PicksPart = OnParts PicksOnly pick_request_of
+  OnParts nodes clients blocks spare differences value q answer nodes' clients' blocks' spare' differences' =
+      Inside R (nodes_part q (length nodes)) (clients_part q (length clients)) (blocks_part q (length blocks)) (blocks_part q (length spare))
+      (differences_part q (length differences)) (value_part q (length value))
+      nodes clients blocks spare differences value asked answer nodes' clients' blocks' spare' differences'
 
 -- a pick, or another call
-abbrev pub MakesPart : List NodeRecord → List ClientRecord → List ℕ → List ℕ → List ℕ → List ℕ → Walk → Answer
-    → List NodeRecord → List ClientRecord → List ℕ → List ℕ → List ℕ → Type 0
-MakesPart nodes clients blocks spare differences value w answer nodes' clients' blocks' spare' differences' =
-    cond (picks_of w) (PicksPart nodes clients blocks spare differences value w answer nodes' clients' blocks' spare' differences')
-    (StepsPart nodes clients blocks spare differences value w answer nodes' clients' blocks' spare' differences')
+module _ (nodes : List NodeRecord) (clients : List ClientRecord) (blocks spare differences value : List ℕ) (q : Request) (answer : Answer)
+    (nodes' : List NodeRecord) (clients' : List ClientRecord) (blocks' spare' differences' : List ℕ) where
+  abbrev pub PicksPart : ℕ → Type 0
+  PicksPart c = OnParts PicksOnly (pick_request_of q c) nodes clients blocks spare differences value q answer nodes' clients' blocks' spare' differences'
 
--- the stripes that the call goes to, one after the other; the answer is that of the last
-abbrev pub Goes : List NodeRecord → List ClientRecord → List ℕ → List ℕ → List ℕ → List ℕ → Walk → Answer
+  abbrev pub StepsPart : StepCall → Type 0
+  StepsPart call = OnParts StepsLent (step_request_of q call) nodes clients blocks spare differences value q answer nodes' clients' blocks' spare' differences'
+
+  abbrev pub MakesCall : VolumeCall → Type 0
+  MakesCall (Pick c) = PicksPart c
+  MakesCall (Step call) = StepsPart call
+
+  abbrev pub MakesPart : Type 0
+  MakesPart = MakesCall q.call
+
+-- two tables of records, and three of bytes
+pub record Tables : Type 0 where
+  pub nodes : List NodeRecord
+  pub clients : List ClientRecord
+  pub blocks : List ℕ
+  pub spare : List ℕ
+  pub differences : List ℕ
+
+-- the call on a stripe, of all tables
+abbrev pub Makes : List ℕ → Tables → Request → Answer → Tables → Type 0
+Makes value t q answer t' =
+    MakesPart t.nodes t.clients t.blocks t.spare t.differences value q answer t'.nodes t'.clients t'.blocks t'.spare t'.differences
+
+-- the calls on the stripes before s, one after the other, have led from t₀ to t; the answer is that of the last
+module _ (q : Request) (value : List ℕ) (t₀ : Tables) where
+  pub data Turns : ℕ → Tables → Answer → Type 0 where
+    none : Turns 0 t₀ Accepted
+    more : {s : ℕ} {t : Tables} {a a' : Answer} {t' : Tables} → Turns s t a → Makes value t (at_stripe q s) a' t' → Turns (suc s) t' a'
+
+-- all of them
+abbrev pub Goes : List NodeRecord → List ClientRecord → List ℕ → List ℕ → List ℕ → List ℕ → Request → Answer
     → List NodeRecord → List ClientRecord → List ℕ → List ℕ → List ℕ → Type 0
-Goes = Gone picks_of PicksPart StepsPart goes_on after_of (λ w. w.answer)
+Goes nodes clients blocks spare differences value q answer nodes' clients' blocks' spare' differences' =
+    Turns q value (record { nodes = nodes; clients = clients; blocks = blocks; spare = spare; differences = differences }) q.volume.stripes
+    (record { nodes = nodes'; clients = clients'; blocks = blocks'; spare = spare'; differences = differences' }) answer

@@ -2,13 +2,12 @@
 ghost use Rattle.volumeshelf.specs.Entry.{Goes, MakesPart};
 ghost use Rattle.volumeshelf.specs.Volumes.{AnswersVolume, CallsVolume, FreshVolume, ReadsVolume};
 
-use crate::table::{look_clients, look_nodes};
 use calls::{Answer, Reading};
 use records::{ClientRecord, NodeRecord};
-use routing::{ReadRequest, Request, SizedRead, Walk};
+use routing::{ReadRequest, Request, SizedRead, VolumeCall};
 use tables::Volume;
 
-// The call on the tables' parts of the stripe that it has come to.
+// The call on the tables' parts of its stripe.
 #[inline(always)]
 fn on_stripe(
     nodes: &mut [NodeRecord],
@@ -17,66 +16,55 @@ fn on_stripe(
     spare: &mut [u8],
     differences: &mut [u8],
     value: &[u8],
-    walk: Walk,
+    request: Request,
 ) -> Answer
     ensures { MakesPart nodes.old clients.old blocks.old spare.old differences.old
-        value.now walk result nodes.new clients.new blocks.new spare.new differences.new }
+        value.now request result nodes.new clients.new blocks.new spare.new differences.new }
 {
-    let n = walk.nodes_part(nodes.len());
-    let c = walk.clients_part(clients.len());
-    let b = walk.blocks_part(blocks.len());
-    let s = walk.blocks_part(spare.len());
-    let d = walk.differences_part(differences.len());
-    let v = walk.value_part(value.len());
+    let n = request.nodes_part(nodes.len());
+    let c = request.clients_part(clients.len());
+    let b = request.blocks_part(blocks.len());
+    let s = request.blocks_part(spare.len());
+    let d = request.differences_part(differences.len());
+    let v = request.value_part(value.len());
     let nodes = &mut nodes[n.start..n.end];
     let clients = &mut clients[c.start..c.end];
     let blocks = &mut blocks[b.start..b.end];
     let spare = &mut spare[s.start..s.end];
     let differences = &mut differences[d.start..d.end];
     let value = &value[v.start..v.end];
-    if walk.picks() {
-        shelf::pick(
-            nodes,
-            clients,
-            blocks,
-            spare,
-            differences,
-            value,
-            walk.pick(),
-        )
-    } else {
-        shelf::step(
-            nodes,
-            clients,
-            blocks,
-            spare,
-            differences,
-            value,
-            walk.step(),
-        )
+    match request.call {
+        VolumeCall::Pick(client) => {
+            let pick = request.pick(client);
+            shelf::pick(nodes, clients, blocks, spare, differences, value, pick)
+        }
+        VolumeCall::Step(call) => {
+            let step = request.step(call);
+            shelf::step(nodes, clients, blocks, spare, differences, value, step)
+        }
     }
 }
 
-// The stripes that a call goes to, one after the other. Not inlined into `call`, where a step of one stripe would pay for it.
+// The call on every stripe, one after the other. Not inlined into `call`, where a step of one stripe would pay for it.
 #[inline(never)]
-fn each(
+fn on_each(
     nodes: &mut [NodeRecord],
     clients: &mut [ClientRecord],
     blocks: &mut [u8],
     spare: &mut [u8],
     differences: &mut [u8],
     value: &[u8],
-    begun: Walk,
+    request: Request,
 ) -> Answer
     ensures { Goes nodes.old clients.old blocks.old spare.old differences.old
-        value.now begun result nodes.new clients.new blocks.new spare.new differences.new }
+        value.now request result nodes.new clients.new blocks.new spare.new differences.new }
 {
-    let mut walk = begun;
-    while walk.goes_on() {
-        let answer = on_stripe(nodes, clients, blocks, spare, differences, value, walk);
-        walk = walk.after(answer);
+    let mut answer = Answer::Accepted;
+    for stripe in 0..request.stripes() {
+        let one = request.at(stripe);
+        answer = on_stripe(nodes, clients, blocks, spare, differences, value, one);
     }
-    walk.answer
+    answer
 }
 
 // Every call but read.
@@ -92,36 +80,36 @@ pub fn call(
     ensures { CallsVolume nodes.old clients.old blocks.old spare.old differences.old
         value.now request result nodes.new clients.new blocks.new spare.new differences.new }
 {
-    let n0 = nodes.len();
-    let n1 = clients.len();
-    let n2 = blocks.len();
-    let n3 = spare.len();
-    let n4 = differences.len();
-    let n5 = value.len();
-    let begun = request.begin(n0, n1, n2, n3, n4, n5);
-    if begun.is_one_step() {
-        return on_stripe(nodes, clients, blocks, spare, differences, value, begun);
+    let tested = request.test(
+        nodes,
+        clients,
+        blocks.len(),
+        spare.len(),
+        differences.len(),
+        value.len(),
+    );
+    if let Err(why) = tested {
+        return Answer::Refused(why);
     }
-    if begun.looks() {
-        let seen = look_nodes(nodes, begun);
-        let looked = look_clients(clients, seen);
-        return each(nodes, clients, blocks, spare, differences, value, looked);
+    if request.call.is_of_each() {
+        on_each(nodes, clients, blocks, spare, differences, value, request)
+    } else {
+        on_stripe(nodes, clients, blocks, spare, differences, value, request)
     }
-    each(nodes, clients, blocks, spare, differences, value, begun)
 }
 
 // What a read is answered. Of the blocks and the spare it is told the lengths; the part of them that the answer names is SizedRead::part.
 pub fn read_answer(nodes: &[NodeRecord], clients: &[ClientRecord], request: SizedRead) -> Answer
     ensures { AnswersVolume nodes.now clients.now request result }
 {
-    let n0 = nodes.len();
-    let n1 = clients.len();
-    let walk = request.begin(n0, n1);
-    let n = walk.nodes_part(n0);
-    let c = walk.clients_part(n1);
-    let inner = walk.read();
-    let answer = shelf::read_answer(&nodes[n.start..n.end], &clients[c.start..c.end], inner);
-    walk.after(answer)
+    if let Err(why) = request.test(nodes.len(), clients.len()) {
+        return Answer::Refused(why);
+    }
+    shelf::read_answer(
+        request.nodes_part(nodes),
+        request.clients_part(clients),
+        request.inner(),
+    )
 }
 
 // The block at position i of a stripe, a part of the blocks or of the spare, and the answer, which tells of which.
@@ -134,9 +122,7 @@ pub fn read<'a>(
 ) -> Reading<'a>
     ensures { ReadsVolume nodes.now clients.now blocks.now spare.now request result.answer result.part.now }
 {
-    let live = blocks.len();
-    let kept = spare.len();
-    let sized = request.sized(live, kept);
+    let sized = request.sized(blocks.len(), spare.len());
     let answer = read_answer(nodes, clients, sized);
     let part = sized.part(answer, blocks, spare);
     Reading { part, answer }

@@ -1,69 +1,69 @@
 -- The tests, in order. Assumes nothing.
-use borrow.Author.Tests.{eq-eqb, ne_eqb, not-true, not-false}
+use borrow.Author.Tests.{eq-eqb, ne_eqb}
 use Rattle.routing.proofs.Request.fits.Goals as goal
-
-pub returns-then-not-within : goal.returns-then-not-within
-returns-then-not-within c = rw (← c.within.ensures, not-true c.within.result c.if-not-within.true-raw)
-
-pub returns-then-nodes-lengths : goal.returns-then-nodes-lengths
-returns-then-nodes-lengths c = rw (
-  ← c.lengths-lengths.ensures,
-  ← c.within.ensures,
-  not-false c.within.result c.if-not-within.false-raw,
-  ne_eqb _ _ c.if-nodes-lengths.true,
-)
-
-pub returns-then-clients-lengths : goal.returns-then-clients-lengths
-returns-then-clients-lengths c = rw (
-  ← c.lengths-lengths.ensures,
-  ← c.within.ensures,
-  not-false c.within.result c.if-not-within.false-raw,
-  eq-eqb _ _ c.if-nodes-lengths.false,
-  ne_eqb _ _ c.if-clients-lengths.true,
-)
-
-pub returns-then-blocks-lengths : goal.returns-then-blocks-lengths
-returns-then-blocks-lengths c = rw (
-  ← c.lengths-lengths.ensures,
-  ← c.within.ensures,
-  not-false c.within.result c.if-not-within.false-raw,
-  eq-eqb _ _ c.if-nodes-lengths.false,
-  eq-eqb _ _ c.if-clients-lengths.false,
-  ne_eqb _ _ c.if-blocks-lengths.true,
-)
-
-pub returns-then-spare-lengths : goal.returns-then-spare-lengths
-returns-then-spare-lengths c = rw (
-  ← c.lengths-lengths.ensures,
-  ← c.within.ensures,
-  not-false c.within.result c.if-not-within.false-raw,
-  eq-eqb _ _ c.if-nodes-lengths.false,
-  eq-eqb _ _ c.if-clients-lengths.false,
-  eq-eqb _ _ c.if-blocks-lengths.false,
-  ne_eqb _ _ c.if-spare-lengths.true,
-)
 
 pub returns-then-differences-lengths : goal.returns-then-differences-lengths
 returns-then-differences-lengths c = rw (
   ← c.lengths-lengths.ensures,
   ← c.within.ensures,
-  not-false c.within.result c.if-not-within.false-raw,
-  eq-eqb _ _ c.if-nodes-lengths.false,
-  eq-eqb _ _ c.if-clients-lengths.false,
-  eq-eqb _ _ c.if-blocks-lengths.false,
-  eq-eqb _ _ c.if-spare-lengths.false,
-  ne_eqb _ _ c.if-differences-lengths.true,
-)
-
-pub returns : goal.returns
-returns c = rw (
-  ← c.lengths-lengths.ensures,
-  ← c.within.ensures,
-  not-false c.within.result c.if-not-within.false-raw,
-  eq-eqb _ _ c.if-nodes-lengths.false,
-  eq-eqb _ _ c.if-clients-lengths.false,
-  eq-eqb _ _ c.if-blocks-lengths.false,
-  eq-eqb _ _ c.if-spare-lengths.false,
-  eq-eqb _ _ c.if-differences-lengths.false,
+  c.if-within.true,
+  eq-eqb _ _ c.if-nodes-lengths.true,
+  eq-eqb _ _ c.if-clients-lengths.true,
+  eq-eqb _ _ c.if-blocks-lengths.true,
+  eq-eqb _ _ c.if-spare-lengths.true,
+  eq-eqb _ _ c.if-differences-lengths.true,
 )
     c.value_fits.ensures
+
+pub returns-else-differences-lengths : goal.returns-else-differences-lengths
+returns-else-differences-lengths c = rw (
+  ← c.lengths-lengths.ensures,
+  ← c.within.ensures,
+  c.if-within.true,
+  eq-eqb _ _ c.if-nodes-lengths.true,
+  eq-eqb _ _ c.if-clients-lengths.true,
+  eq-eqb _ _ c.if-blocks-lengths.true,
+  eq-eqb _ _ c.if-spare-lengths.true,
+  ne_eqb _ _ c.if-differences-lengths.false,
+)
+
+pub returns-else-spare-lengths : goal.returns-else-spare-lengths
+returns-else-spare-lengths c = rw (
+  ← c.lengths-lengths.ensures,
+  ← c.within.ensures,
+  c.if-within.true,
+  eq-eqb _ _ c.if-nodes-lengths.true,
+  eq-eqb _ _ c.if-clients-lengths.true,
+  eq-eqb _ _ c.if-blocks-lengths.true,
+  ne_eqb _ _ c.if-spare-lengths.false,
+)
+
+pub returns-else-blocks-lengths : goal.returns-else-blocks-lengths
+returns-else-blocks-lengths c = rw (
+  ← c.lengths-lengths.ensures,
+  ← c.within.ensures,
+  c.if-within.true,
+  eq-eqb _ _ c.if-nodes-lengths.true,
+  eq-eqb _ _ c.if-clients-lengths.true,
+  ne_eqb _ _ c.if-blocks-lengths.false,
+)
+
+pub returns-else-clients-lengths : goal.returns-else-clients-lengths
+returns-else-clients-lengths c = rw (
+  ← c.lengths-lengths.ensures,
+  ← c.within.ensures,
+  c.if-within.true,
+  eq-eqb _ _ c.if-nodes-lengths.true,
+  ne_eqb _ _ c.if-clients-lengths.false,
+)
+
+pub returns-else-nodes-lengths : goal.returns-else-nodes-lengths
+returns-else-nodes-lengths c = rw (
+  ← c.lengths-lengths.ensures,
+  ← c.within.ensures,
+  c.if-within.true,
+  ne_eqb _ _ c.if-nodes-lengths.false,
+)
+
+pub returns-else-within : goal.returns-else-within
+returns-else-within c = rw (← c.within.ensures, c.if-within.false)

@@ -1,24 +1,25 @@
--- Each of the three ways.
-use Rattle.volumeshelf.proofs.Ways.{looked-said, one-said, plain-said}
+-- Refused by the volume's own tests, or the call on each stripe, or on its own.
+use Rattle.std.proofs.Common.{sym, ap, ◌∙◌}
+use Rattle.volumeshelf.proofs.Called.{each-said, one-said, refused-said}
+use Rattle.volumeshelf.proofs.Tested.{passes}
 use Rattle.volumeshelf.proofs.entry.call.Goals as goal
 
-pub returns-then-is_one_step : goal.returns-then-is_one_step
-returns-then-is_one_step c =
-    one-said c.args.nodes.now c.args.clients.now c.args.blocks.now c.args.spare.now c.args.differences.now c.args.value.now c.args.request
-    c.begin-begun.result c.begin-begun.ensures
-    c.on_stripe.result c.on_stripe.new.nodes c.on_stripe.new.clients c.on_stripe.new.blocks c.on_stripe.new.spare c.on_stripe.new.differences
-    c.if-is_one_step.ensures c.on_stripe.ensures
+pub returns-in-Err : goal.returns-in-Err
+returns-in-Err c =
+    refused-said c.args.request c.args.value.now
+    (record { nodes = c.args.nodes.now; clients = c.args.clients.now; blocks = c.args.blocks.now; spare = c.args.spare.now; differences = c.args.differences.now })
+    c.in-Err.why (sym c.test-tested.ensures ∙ c.in-Err.is)
 
-pub returns-then-looks : goal.returns-then-looks
-returns-then-looks c =
-    looked-said c.args.nodes.now c.args.clients.now c.args.blocks.now c.args.spare.now c.args.differences.now c.args.value.now c.args.request
-    c.begin-begun.result c.begin-begun.ensures
-    c.each.result c.each.new.nodes c.each.new.clients c.each.new.blocks c.each.new.spare c.each.new.differences
-    c.look_nodes-seen.result c.look_clients-looked.result c.look_nodes-seen.ensures c.look_clients-looked.ensures c.each.ensures
+pub returns-then-is_of_each : goal.returns-then-is_of_each
+returns-then-is_of_each c =
+    each-said c.args.request c.args.value.now
+    (record { nodes = c.args.nodes.now; clients = c.args.clients.now; blocks = c.args.blocks.now; spare = c.args.spare.now; differences = c.args.differences.now })
+    (ap passes (sym c.test-tested.ensures ∙ c.in_default.is)) (sym c.if-is_of_each.ensures) c.on_each.result
+    (record { nodes = c.on_each.new.nodes; clients = c.on_each.new.clients; blocks = c.on_each.new.blocks; spare = c.on_each.new.spare; differences = c.on_each.new.differences }) c.on_each.ensures
 
-pub returns : goal.returns
-returns c =
-    plain-said c.args.nodes.now c.args.clients.now c.args.blocks.now c.args.spare.now c.args.differences.now c.args.value.now c.args.request
-    c.begin-begun.result c.begin-begun.ensures
-    c.each-2.result c.each-2.new.nodes c.each-2.new.clients c.each-2.new.blocks c.each-2.new.spare c.each-2.new.differences
-    c.if-looks.ensures c.each-2.ensures
+pub returns-else-is_of_each : goal.returns-else-is_of_each
+returns-else-is_of_each c =
+    one-said c.args.request c.args.value.now
+    (record { nodes = c.args.nodes.now; clients = c.args.clients.now; blocks = c.args.blocks.now; spare = c.args.spare.now; differences = c.args.differences.now })
+    (ap passes (sym c.test-tested.ensures ∙ c.in_default.is)) (sym c.if-is_of_each.ensures) c.on_stripe.result
+    (record { nodes = c.on_stripe.new.nodes; clients = c.on_stripe.new.clients; blocks = c.on_stripe.new.blocks; spare = c.on_stripe.new.spare; differences = c.on_stripe.new.differences }) c.on_stripe.ensures

@@ -4,12 +4,12 @@ use Rattle.shelf.specs.Shelf.{PicksOnly, StepsLent}
 use Rattle.volumeshelf.proofs.OnParts.{on-parts}
 use Rattle.volumeshelf.proofs.entry.on_stripe.Goals as goal
 
-pub returns-then-picks : goal.returns-then-picks
-returns-then-picks c =
-    rw (← c.if-picks.ensures)
-    (on-parts PicksOnly pick_request_of c.args.walk c.args.nodes.now c.args.clients.now c.args.blocks.now c.args.spare.now c.args.differences.now c.args.value.now
-    c.pick.result c.pick.ensures c.pick-then-picks.result c.pick-then-picks.new.nodes c.pick-then-picks.new.clients c.pick-then-picks.new.blocks c.pick-then-picks.new.spare
-    c.pick-then-picks.new.differences
+pub returns-in-Pick : goal.returns-in-Pick
+returns-in-Pick c =
+    rw c.in-Pick.is
+    (on-parts PicksOnly (pick_request_of c.args.request _) c.args.request c.args.nodes.now c.args.clients.now c.args.blocks.now c.args.spare.now c.args.differences.now c.args.value.now
+    c.pick-pick.result c.pick-pick.ensures c.pick.result c.pick.new.nodes c.pick.new.clients c.pick.new.blocks c.pick.new.spare
+    c.pick.new.differences
     c.nodes_part-n.result.start c.nodes_part-n.result.end c.clients_part-c.result.start c.clients_part-c.result.end
     c.blocks_part-b.result.start c.blocks_part-b.result.end c.blocks_part-s.result.start c.blocks_part-s.result.end
     c.differences_part-d.result.start c.differences_part-d.result.end c.value_part-v.result.start c.value_part-v.result.end
@@ -19,15 +19,15 @@ returns-then-picks c =
     (record { first = c.blocks_part-s.ensures.start; end = c.blocks_part-s.ensures.end })
     (record { first = c.differences_part-d.ensures.start; end = c.differences_part-d.ensures.end })
     (record { first = c.value_part-v.ensures.start; end = c.value_part-v.ensures.end })
-    c.pick-then-picks.auto.nodes c.pick-then-picks.auto.clients c.pick-then-picks.auto.blocks c.pick-then-picks.auto.spare c.pick-then-picks.auto.differences
-    c.pick-then-picks.ensures)
+    c.pick.auto.nodes c.pick.auto.clients c.pick.auto.blocks c.pick.auto.spare c.pick.auto.differences
+    c.pick.ensures)
 
-pub returns-else-picks : goal.returns-else-picks
-returns-else-picks c =
-    rw (← c.if-picks.ensures)
-    (on-parts StepsLent step_request_of c.args.walk c.args.nodes.now c.args.clients.now c.args.blocks.now c.args.spare.now c.args.differences.now c.args.value.now
-    c.step.result c.step.ensures c.step-else-picks.result c.step-else-picks.new.nodes c.step-else-picks.new.clients c.step-else-picks.new.blocks c.step-else-picks.new.spare
-    c.step-else-picks.new.differences
+pub returns-in-Step : goal.returns-in-Step
+returns-in-Step c =
+    rw c.in-Step.is
+    (on-parts StepsLent (step_request_of c.args.request _) c.args.request c.args.nodes.now c.args.clients.now c.args.blocks.now c.args.spare.now c.args.differences.now c.args.value.now
+    c.step-step.result c.step-step.ensures c.step.result c.step.new.nodes c.step.new.clients c.step.new.blocks c.step.new.spare
+    c.step.new.differences
     c.nodes_part-n.result.start c.nodes_part-n.result.end c.clients_part-c.result.start c.clients_part-c.result.end
     c.blocks_part-b.result.start c.blocks_part-b.result.end c.blocks_part-s.result.start c.blocks_part-s.result.end
     c.differences_part-d.result.start c.differences_part-d.result.end c.value_part-v.result.start c.value_part-v.result.end
@@ -37,5 +37,5 @@ returns-else-picks c =
     (record { first = c.blocks_part-s.ensures.start; end = c.blocks_part-s.ensures.end })
     (record { first = c.differences_part-d.ensures.start; end = c.differences_part-d.ensures.end })
     (record { first = c.value_part-v.ensures.start; end = c.value_part-v.ensures.end })
-    c.step-else-picks.auto.nodes c.step-else-picks.auto.clients c.step-else-picks.auto.blocks c.step-else-picks.auto.spare c.step-else-picks.auto.differences
-    c.step-else-picks.ensures)
+    c.step.auto.nodes c.step.auto.clients c.step.auto.blocks c.step.auto.spare c.step.auto.differences
+    c.step.ensures)

@@ -1,9 +1,15 @@
--- What shelf's read of the stripe's parts is answered, said of the volume.
-use Rattle.volumeshelf.proofs.Reading.{answers-at}
+-- Refused by the volume's own tests, or shelf's read of the stripe's parts.
+use Rattle.std.proofs.Common.{sym, ap, ◌∙◌}
+use mathlib.Core.Path.{transport}
+use Rattle.taking.specs.Reads.{AnswersLent}
+use Rattle.volumeshelf.proofs.Reading.{read-refused, read-said}
+use Rattle.volumeshelf.proofs.Tested.{passes}
 use Rattle.volumeshelf.proofs.entry.read_answer.Goals as goal
+
+pub returns-in-Err : goal.returns-in-Err
+returns-in-Err c = read-refused c.args.nodes.now c.args.clients.now c.args.request c.in-Err.why (sym c.test.ensures ∙ c.in-Err.is)
 
 pub returns : goal.returns
 returns c =
-    answers-at c.args.nodes.now c.args.clients.now c.args.request c.begin-walk.result c.begin-walk.ensures c.read-inner.result c.read-inner.ensures
-    c.read_answer-answer.result c.nodes_part-n.ensures.start c.nodes_part-n.ensures.end c.clients_part-c.ensures.start c.clients_part-c.ensures.end
-    c.read_answer-answer.ensures c.after.result c.after.ensures
+    read-said c.args.nodes.now c.args.clients.now c.args.request (ap passes (sym c.test.ensures ∙ c.in_default.is)) c.read_answer.result
+    (transport (λ i. AnswersLent (c.nodes_part.ensures i) (c.clients_part.ensures i) (c.inner.ensures i) c.read_answer.result) c.read_answer.ensures)
