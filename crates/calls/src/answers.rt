@@ -13,13 +13,8 @@ impl Answer {
         ensures { result ≡ number (answer_of self []) }
     {
         match self {
-            Answer::Accepted => 0,
-            Answer::Shown(_) => 0,
-            Answer::Added => 0,
-            Answer::Done => 0,
-            Answer::Rebuilt => 0,
-            Answer::Told(_) => 0,
             Answer::Refused(why) => why.number(),
+            _ => 0,
         }
     }
 
@@ -28,13 +23,8 @@ impl Answer {
         ensures { result ≡ is_unchanged self }
     {
         match self {
-            Answer::Accepted => false,
-            Answer::Shown(_) => false,
-            Answer::Added => false,
-            Answer::Done => false,
-            Answer::Rebuilt => false,
-            Answer::Told(_) => false,
             Answer::Refused(why) => !is_change(why),
+            _ => false,
         }
     }
 }
@@ -43,8 +33,7 @@ impl Answer {
 fn is_change(why: Refusal) -> bool
     ensures { result ≡ changes why }
 {
-    let number = why.number();
-    number == 9 || number == 10
+    matches!(why, Refusal::Locked | Refusal::NotHeld)
 }
 
 impl AtNode {
@@ -54,8 +43,8 @@ impl AtNode {
     {
         AtNode {
             answer: Answer::Refused(why),
-            node: node,
-            client: client,
+            node,
+            client,
         }
     }
 }
@@ -66,7 +55,7 @@ impl OfClient {
     {
         OfClient {
             answer: Answer::Refused(why),
-            client: client,
+            client,
         }
     }
 }
@@ -77,7 +66,7 @@ impl OfNode {
     {
         OfNode {
             answer: Answer::Refused(why),
-            node: node,
+            node,
         }
     }
 }

@@ -23,32 +23,14 @@ fn target_by(op: ClientCall, z: Sizes, client: ClientRecord) -> usize
     match op {
         ClientCall::Drop => 0,
         ClientCall::Sweep => sweep_node(z, client),
-        ClientCall::Stop => client.node(),
-        ClientCall::Lock => client.node(),
-        ClientCall::Weaken => client.node(),
-        ClientCall::Tighten => client.node(),
-        ClientCall::Write => client.node(),
-        ClientCall::Settle => client.node(),
-        ClientCall::Unlock => client.node(),
-        ClientCall::Quit => client.node(),
+        _ => client.node(),
     }
 }
 
 fn looks_by(op: ClientCall) -> bool
     ensures { result ≡ looks_by op }
 {
-    match op {
-        ClientCall::Drop => false,
-        ClientCall::Sweep => false,
-        ClientCall::Stop => true,
-        ClientCall::Lock => true,
-        ClientCall::Weaken => true,
-        ClientCall::Tighten => true,
-        ClientCall::Write => true,
-        ClientCall::Settle => true,
-        ClientCall::Unlock => true,
-        ClientCall::Quit => true,
-    }
+    !matches!(op, ClientCall::Drop | ClientCall::Sweep)
 }
 
 impl StepCall {
@@ -85,12 +67,9 @@ impl StepCall {
         ensures { result ≡ looks_at_all self }
     {
         match self {
-            StepCall::Swap(_, _) => false,
-            StepCall::Fail(_) => false,
-            StepCall::Due(_) => false,
             StepCall::Tick => true,
-            StepCall::At(_, _, _) => false,
             StepCall::By(op, _) => looks_by(op),
+            _ => false,
         }
     }
 }

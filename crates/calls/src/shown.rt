@@ -18,15 +18,8 @@ pub fn shown_part<'a>(
     ensures { result.now ≡ shown_part answer b i blocks.now spare.now }
 {
     match answer {
-        Answer::Accepted => &blocks[..0],
-        Answer::Shown(source) => match source {
-            Source::Live => block_of(blocks, b, i),
-            Source::Spare => block_of(spare, b, i),
-        },
-        Answer::Added => &blocks[..0],
-        Answer::Done => &blocks[..0],
-        Answer::Rebuilt => &blocks[..0],
-        Answer::Told(_) => &blocks[..0],
-        Answer::Refused(_) => &blocks[..0],
+        Answer::Shown(Source::Live) => block_of(blocks, b, i),
+        Answer::Shown(Source::Spare) => block_of(spare, b, i),
+        _ => &blocks[..0],
     }
 }

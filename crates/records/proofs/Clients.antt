@@ -15,12 +15,23 @@ use Rattle.code.specs.View.{node_set_of}
 use Rattle.code.proofs.NodeSets.{has-put}
 use Rattle.entries.proofs.Lists.{list_of-more}
 use Rattle.records.specs.declared.Sizes.{Sizes}
+use Rattle.records.specs.declared.Phase.{Phase}
+use Rattle.records.specs.declared.Phase.TheVariants as Phases
 use Rattle.records.specs.declared.Lmode.{Lmode}
 use Rattle.records.specs.declared.Lmode.TheVariants.{Unl, L0, L1, Exp}
 use Rattle.records.specs.Sizes.{node_limit}
 use Rattle.records.specs.Node.{is_unl, is_exp, is_l0, is_l1}
-use Rattle.records.specs.Client.{Picking, Locking, unl_or_exp, rebuild_within, locked_rebuild}
-use Rattle.records.specs.View.{old_lmode, old_lmodes}
+use Rattle.records.specs.Client.{Picking, Locking, unl_or_exp, rebuild_within, locked_rebuild, remembered}
+use Rattle.records.specs.View.{old_lmode, old_lmodes, rebuild_of}
+
+-- only locking remembers lmodes
+pub none-remembered : (p : Phase) → ((x : ℕ) (e : NodeSet) → p ≡ Phases.Locking x e → ⊥) → remembered (rebuild_of p) ≡ []
+none-remembered Phases.NoRebuild f = refl
+none-remembered (Phases.Locking x e) f = absurd (f x e refl)
+none-remembered (Phases.Picking j) f = refl
+none-remembered (Phases.Writing j s e) f = refl
+none-remembered (Phases.Settling j e) f = refl
+none-remembered (Phases.Unlocking j) f = refl
 
 -- ---- the old lmodes of x nodes, of which those in s were EXP
 

@@ -1,9 +1,9 @@
 -- The limits of a record's parts, by the tests of the code. Assumes nothing.
 use Rattle.std.specs.Prelude.{Option, None, Some}
 use mathlib.Core.Path.{◌≡◌, refl}
-use mathlib.Core.Bool.{Bool, true, false, ◌&&◌, ◌||◌, not, and_assoc}
+use mathlib.Core.Bool.{Bool, true, false, ◌&&◌, and_assoc}
 use mathlib.Core.List.{List}
-use Prim.Native.Nat.{ℕ, ◌≤◌, ◌<◌}
+use Prim.Native.Nat.{◌≤◌, ◌<◌}
 use native.Mathlib.Omega.{arith}
 use lib.Dec.{leb}
 use borrow.Author.Tests.{le-leb, leb-true, ltb-true}
@@ -16,27 +16,12 @@ use Rattle.entries.specs.Entries.{entry_limit, finished_limit, ids_within}
 use Rattle.entries.specs.View.{entries_of}
 use Rattle.entries.proofs.Lists.{entries-count}
 use Rattle.records.specs.declared.Sizes.{Sizes}
-use Rattle.records.specs.declared.Lmode.{Lmode}
-use Rattle.records.specs.declared.Lmode.TheVariants.{Unl, L0, L1, Exp}
 use Rattle.records.specs.declared.NodeRecord.{NodeRecord}
-use Rattle.records.specs.Sizes.{node_limit, sizes_within, is_client}
-use Rattle.records.specs.Node.{is_l0, is_l1, holder_within, node_within}
+use Rattle.records.specs.Sizes.{node_limit, sizes_within}
+use Rattle.records.specs.Node.{node_within}
 use Rattle.records.specs.Client.{Client, Write, hand_within, rebuild_within, client_within}
 use Rattle.records.specs.ClientSteps.{lists_within}
 use Rattle.records.specs.View.{node_of}
-
--- no holder where nobody can be one; a client where there is one
-pub nobody-within : (z : Sizes) (l : Lmode) → not (is_l0 l || is_l1 l) ≡ holder_within z l None
-nobody-within z Unl = refl
-nobody-within z L0 = refl
-nobody-within z L1 = refl
-nobody-within z Exp = refl
-
-pub client-within : (z : Sizes) (l : Lmode) (c : ℕ) → ((is_l0 l || is_l1 l) && is_client z c) ≡ holder_within z l (Some c)
-client-within z Unl c = refl
-client-within z L0 c = refl
-client-within z L1 c = refl
-client-within z Exp c = refl
 
 -- ---- a client
 

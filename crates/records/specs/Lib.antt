@@ -5,3 +5,4 @@ pub mod Client
 pub mod View
 pub mod NodeSteps
 pub mod ClientSteps
+pub mod Calls

@@ -19,12 +19,11 @@ impl Write {
     pub fn new(id: WriteId, previous: Option<WriteId>, epoch: Epoch) -> Self
         ensures { write_of result ≡ record { id = id; previous = previous; epoch = epoch; done = including id.position no_nodes } }
     {
-        let done = NodeSet::none().with(id.position as usize);
         Write {
-            id: id,
-            previous: previous,
-            epoch: epoch,
-            done: done,
+            id,
+            previous,
+            epoch,
+            done: NodeSet::none().with(id.position as usize),
         }
     }
 
@@ -32,9 +31,7 @@ impl Write {
     fn with_done(self, done: NodeSet) -> Self
         ensures { write_of result ≡ record { id = self.id; previous = self.previous; epoch = self.epoch; done = node_set_of done } }
     {
-        let mut write = self;
-        write.done = done;
-        write
+        Write { done, ..self }
     }
 
     fn is_previous_within(self, z: Sizes) -> bool
@@ -47,12 +44,10 @@ impl Write {
     fn is_within(self, finished: Ids, z: Sizes) -> bool
         ensures { result ≡ hand_within z (Some (write_of self)) (ids_of finished) }
     {
-        let id = self.id;
-        let done = self.done;
-        id.is_within(z.k, z.m)
+        self.id.is_within(z.k, z.m)
             && (self.is_previous_within(z)
                 && (self.epoch.0 <= NodeRecord::EPOCHS
-                    && (done.is_within(z.n) && finished.count < Ids::LIMIT)))
+                    && (self.done.is_within(z.n) && finished.count < Ids::LIMIT)))
     }
 }
 
@@ -89,14 +84,9 @@ impl Phase {
         requires { ((is_l0 old || is_l1 old) ≡ false) × (length (remembered (rebuild_of self)) < node_limit) }
         ensures { rebuild_of result ≡ locked_rebuild n old (remembered (rebuild_of self)) }
     {
-        let nobody = NodeSet::none();
         match self {
-            Phase::NoRebuild => Phase::locked(0, nobody, old, n),
             Phase::Locking(x, expired) => Phase::locked(x, expired, old, n),
-            Phase::Picking(_) => Phase::locked(0, nobody, old, n),
-            Phase::Writing(_, _, _) => Phase::locked(0, nobody, old, n),
-            Phase::Settling(_, _) => Phase::locked(0, nobody, old, n),
-            Phase::Unlocking(_) => Phase::locked(0, nobody, old, n),
+            _ => Phase::locked(0, NodeSet::none(), old, n),
         }
     }
 
@@ -166,22 +156,20 @@ impl ClientRecord {
     pub fn stop(self) -> Self
         ensures { client_of result ≡ stopped (client_of self) }
     {
-        let next = self.next;
-        ClientRecord::idle(next)
+        ClientRecord::idle(self.next)
     }
 
     // Nothing in hand, no rebuild, empty lists.
     fn idle(next: WriteNumber) -> Self
         ensures { client_of result ≡ idle_client next }
     {
-        let no_ids = Ids::none();
         ClientRecord {
             hand: None,
             phase: Phase::NoRebuild,
-            finished: no_ids,
-            moved: no_ids,
+            finished: Ids::none(),
+            moved: Ids::none(),
             round: 0,
-            next: next,
+            next,
         }
     }
 
@@ -219,15 +207,7 @@ impl ClientRecord {
     pub fn has_rebuild(self) -> bool
         ensures { result ≡ has_rebuild (client_of self).rebuild }
     {
-        let phase = self.phase;
-        match phase {
-            Phase::NoRebuild => false,
-            Phase::Locking(_, _) => true,
-            Phase::Picking(_) => true,
-            Phase::Writing(_, _, _) => true,
-            Phase::Settling(_, _) => true,
-            Phase::Unlocking(_) => true,
-        }
+        !matches!(self.phase, Phase::NoRebuild)
     }
 
     // ---- the write in hand
@@ -235,18 +215,7 @@ impl ClientRecord {
     fn with_hand(self, hand: Option<Write>) -> Self
         ensures { client_of result ≡ with_hand (hand_of hand) (client_of self) }
     {
-        let phase = self.phase;
-        let finished = self.finished;
-        let moved = self.moved;
-        let next = self.next;
-        ClientRecord {
-            hand: hand,
-            phase: phase,
-            finished: finished,
-            moved: moved,
-            round: self.round,
-            next: next,
-        }
+        ClientRecord { hand, ..self }
     }
 
     // A new write; its number is used.
@@ -254,19 +223,22 @@ impl ClientRecord {
         requires { self.next.0 < write_limit }
         ensures { client_of result ≡ began (write_of write) (client_of self) }
     {
-        let next = WriteNumber(self.next.0 + 1);
-        let mut client = self;
-        client.next = next;
-        client.with_hand(Some(write))
+        ClientRecord {
+            hand: Some(write),
+            next: WriteNumber(self.next.0 + 1),
+            ..self
+        }
     }
 
     pub fn finish(self, id: WriteId) -> Self
         requires { self.finished.count < finished_limit }
         ensures { client_of result ≡ finished_write id (client_of self) }
     {
-        let mut client = self;
-        client.finished = self.finished.push(id);
-        client.drop_write()
+        ClientRecord {
+            hand: None,
+            finished: self.finished.push(id),
+            ..self
+        }
     }
 
     pub fn drop_write(self) -> Self
@@ -279,32 +251,24 @@ impl ClientRecord {
     pub fn join(self, write: Write, j: u8) -> Self
         ensures { client_of result ≡ with_hand (Some (record { id = write.id; previous = write.previous; epoch = write.epoch; done = including j (node_set_of write.done) })) (client_of self) }
     {
-        let done = write.done;
-        self.with_hand(Some(write.with_done(done.with(j as usize))))
+        self.with_hand(Some(write.with_done(write.done.with(j as usize))))
     }
 
     // The write in hand is done at node j no more: check's INIT.
     pub fn leave(self, write: Write, j: u8) -> Self
         ensures { client_of result ≡ with_hand (Some (record { id = write.id; previous = write.previous; epoch = write.epoch; done = excluding j (node_set_of write.done) })) (client_of self) }
     {
-        let done = write.done;
-        self.with_hand(Some(write.with_done(done.without(j as usize))))
+        self.with_hand(Some(write.with_done(write.done.without(j as usize))))
     }
 
     // The write in hand has no previous id any more: check's GC.
     pub fn forget(self, write: Write) -> Self
         ensures { client_of result ≡ with_hand (Some (record { id = write.id; previous = None; epoch = write.epoch; done = node_set_of write.done })) (client_of self) }
     {
-        let id = write.id;
-        let epoch = write.epoch;
-        let done = write.done;
-        let kept = Write {
-            id: id,
+        self.with_hand(Some(Write {
             previous: None,
-            epoch: epoch,
-            done: done,
-        };
-        self.with_hand(Some(kept))
+            ..write
+        }))
     }
 
     // ---- the sweep round
@@ -321,16 +285,19 @@ impl ClientRecord {
         requires { (self.round < 2 * n) × (n ≤ node_limit) }
         ensures { client_of result ≡ swept_on n (client_of self) }
     {
-        let mut client = self;
         if 2 * n <= self.round as usize + 1 {
-            let finished = self.finished;
-            client.moved = finished;
-            client.finished = Ids::none();
-            client.round = 0;
+            ClientRecord {
+                moved: self.finished,
+                finished: Ids::none(),
+                round: 0,
+                ..self
+            }
         } else {
-            client.round = self.round + 1;
+            ClientRecord {
+                round: self.round + 1,
+                ..self
+            }
         }
-        client
     }
 
     // ---- the rebuild
@@ -338,26 +305,14 @@ impl ClientRecord {
     fn with_phase(self, phase: Phase) -> Self
         ensures { client_of result ≡ with_rebuild (rebuild_of phase) (client_of self) }
     {
-        let hand = self.hand;
-        let finished = self.finished;
-        let moved = self.moved;
-        let next = self.next;
-        ClientRecord {
-            hand: hand,
-            phase: phase,
-            finished: finished,
-            moved: moved,
-            round: self.round,
-            next: next,
-        }
+        ClientRecord { phase, ..self }
     }
 
     // The node that the rebuild is at.
     pub fn node(self) -> usize
         ensures { result ≡ next_node (client_of self).rebuild }
     {
-        let phase = self.phase;
-        phase.node()
+        self.phase.node()
     }
 
     // After the lock of the next node, whose lmode was old.
@@ -365,8 +320,7 @@ impl ClientRecord {
         requires { ((is_l0 old || is_l1 old) ≡ false) × (length (remembered (client_of self).rebuild) < node_limit) }
         ensures { client_of result ≡ with_rebuild (locked_rebuild n old (remembered (client_of self).rebuild)) (client_of self) }
     {
-        let phase = self.phase;
-        self.with_phase(phase.lock(old, n))
+        self.with_phase(self.phase.lock(old, n))
     }
 
     pub fn pick(self, set: NodeSet, epoch: Epoch) -> Self
@@ -388,8 +342,7 @@ impl ClientRecord {
         requires { n ≤ node_limit }
         ensures { client_of result ≡ with_rebuild (next_rebuild n (client_of self).rebuild) (client_of self) }
     {
-        let phase = self.phase;
-        self.with_phase(phase.next(n))
+        self.with_phase(self.phase.next(n))
     }
 
     pub fn end_rebuild(self) -> Self

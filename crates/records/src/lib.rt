@@ -7,6 +7,7 @@ mod node; // node.rt: a node's record and its calls
 mod ranges; // ranges.rt: the ranges of numbers, the limits of the sizes
 
 ghost use Rattle.std.specs.Prelude.{◌≡◌};
+ghost use Rattle.records.specs.Calls.{is_stop};
 ghost use Rattle.records.specs.Refusals.{number_of, returned_with};
 
 use code::NodeSet;
@@ -166,6 +167,14 @@ pub enum Finding {
     Due(bool),
 }
 
+impl ClientCall {
+    pub fn is_stop(self) -> bool
+        ensures { result ≡ is_stop self }
+    {
+        matches!(self, ClientCall::Stop)
+    }
+}
+
 impl Refusal {
     // The number of document 01's table.
     pub fn number(self) -> u8
@@ -192,18 +201,11 @@ impl Refusal {
         ensures { result ≡ returned_with self }
     {
         match self {
-            Refusal::OutOfLimits => Returned::Nothing,
-            Refusal::OutOfRange => Returned::Nothing,
-            Refusal::OutOfPhase => Returned::Nothing,
             Refusal::WrongMode(opmode, lmode) => Returned::Modes(opmode, lmode),
             Refusal::OldEpoch(epoch) => Returned::NodeEpoch(epoch),
             Refusal::BeforePrevious(id) => Returned::PreviousId(id),
-            Refusal::Full => Returned::Nothing,
-            Refusal::Exhausted => Returned::Nothing,
-            Refusal::Locked => Returned::Nothing,
-            Refusal::NotHeld => Returned::Nothing,
             Refusal::TooFew(size) => Returned::SetSize(size),
-            Refusal::NoInverse => Returned::Nothing,
+            _ => Returned::Nothing,
         }
     }
 }

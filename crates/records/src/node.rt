@@ -2,7 +2,7 @@
 ghost use Rattle.std.specs.Prelude.{◌&&◌, ◌||◌, ◌≡◌, ◌<◌, ◌≤◌, Ok, Err};
 ghost use Rattle.code.specs.View.{node_set_of};
 ghost use Rattle.entries.specs.Entries.{entry_limit, finished_limit, discard, mark_old};
-ghost use Rattle.entries.specs.View.{ids_of};
+ghost use Rattle.entries.specs.View.{ids_of, entries_of};
 ghost use Rattle.records.specs.Node.{epoch_limit, fresh_node, failed_node, is_norm, is_recons, is_init, is_unl, is_exp, is_l0, is_l1, is_holder, holder_of, is_free, takes_add, held_by, held_at_l1, with_entries, with_lmode, entered, locked_by, weakened_by, unlocked, expired_for, given_back, written, settled, ticked, is_due, holder_within, node_within};
 ghost use Rattle.records.specs.NodeSteps.{MeetsAtNode, empty_node, enter_answer, swap_answer, after_previous, add_answer, sweep_answer, lock_answer, held_answer, weaken_answer, tick_answer, check_answer};
 ghost use Rattle.records.specs.View.{node_of};
@@ -15,31 +15,19 @@ impl Opmode {
     pub fn is_norm(self) -> bool
         ensures { result ≡ is_norm self }
     {
-        match self {
-            Opmode::Norm => true,
-            Opmode::Recons => false,
-            Opmode::Init => false,
-        }
+        matches!(self, Opmode::Norm)
     }
 
     pub fn is_recons(self) -> bool
         ensures { result ≡ is_recons self }
     {
-        match self {
-            Opmode::Norm => false,
-            Opmode::Recons => true,
-            Opmode::Init => false,
-        }
+        matches!(self, Opmode::Recons)
     }
 
     pub fn is_init(self) -> bool
         ensures { result ≡ is_init self }
     {
-        match self {
-            Opmode::Norm => false,
-            Opmode::Recons => false,
-            Opmode::Init => true,
-        }
+        matches!(self, Opmode::Init)
     }
 }
 
@@ -47,56 +35,31 @@ impl Lmode {
     fn is_unl(self) -> bool
         ensures { result ≡ is_unl self }
     {
-        match self {
-            Lmode::Unl => true,
-            Lmode::L0 => false,
-            Lmode::L1 => false,
-            Lmode::Exp => false,
-        }
+        matches!(self, Lmode::Unl)
     }
 
     pub(crate) fn is_exp(self) -> bool
         ensures { result ≡ is_exp self }
     {
-        match self {
-            Lmode::Unl => false,
-            Lmode::L0 => false,
-            Lmode::L1 => false,
-            Lmode::Exp => true,
-        }
+        matches!(self, Lmode::Exp)
     }
 
     fn is_l1(self) -> bool
         ensures { result ≡ is_l1 self }
     {
-        match self {
-            Lmode::Unl => false,
-            Lmode::L0 => false,
-            Lmode::L1 => true,
-            Lmode::Exp => false,
-        }
+        matches!(self, Lmode::L1)
     }
 
     fn is_locked(self) -> bool
         ensures { result ≡ (is_l0 self || is_l1 self) }
     {
-        match self {
-            Lmode::Unl => false,
-            Lmode::L0 => true,
-            Lmode::L1 => true,
-            Lmode::Exp => false,
-        }
+        matches!(self, Lmode::L0 | Lmode::L1)
     }
 
     fn takes_add(self) -> bool
         ensures { result ≡ (is_unl self || is_l0 self) }
     {
-        match self {
-            Lmode::Unl => true,
-            Lmode::L0 => true,
-            Lmode::L1 => false,
-            Lmode::Exp => false,
-        }
+        matches!(self, Lmode::Unl | Lmode::L0)
     }
 }
 
@@ -119,32 +82,26 @@ impl NodeRecord {
     fn empty(opmode: Opmode) -> Self
         ensures { node_of result ≡ empty_node opmode }
     {
-        let rset = NodeSet::none();
-        let entries = Entries::none();
         NodeRecord {
-            opmode: opmode,
+            opmode,
             lmode: Lmode::Unl,
             holder: None,
             epoch: Epoch(0),
-            rset: rset,
-            entries: entries,
+            rset: NodeSet::none(),
+            entries: Entries::none(),
         }
     }
 
     pub fn is_free(self) -> bool
         ensures { result ≡ is_free (node_of self) }
     {
-        let opmode = self.opmode;
-        let lmode = self.lmode;
-        opmode.is_norm() && lmode.is_unl()
+        self.opmode.is_norm() && self.lmode.is_unl()
     }
 
     pub fn takes_add(self) -> bool
         ensures { result ≡ takes_add (node_of self) }
     {
-        let opmode = self.opmode;
-        let lmode = self.lmode;
-        opmode.is_norm() && lmode.takes_add()
+        self.opmode.is_norm() && self.lmode.takes_add()
     }
 
     fn has_holder(self, c: u8) -> bool
@@ -176,8 +133,7 @@ impl NodeRecord {
         requires { self.entries.count ≤ entry_limit }
         ensures { result ≡ is_due (node_of self) }
     {
-        let opmode = self.opmode;
-        opmode.is_init() || self.entries.has_due()
+        self.opmode.is_init() || self.entries.has_due()
     }
 
     // A holder at L0 and L1 alone, and it is one of the clients.
@@ -221,12 +177,16 @@ impl NodeRecord {
     fn wrong_mode(self) -> NodeStep
         ensures { result ≡ record { answer = Err (Refusal.WrongMode self.opmode self.lmode); node = self } }
     {
-        let opmode = self.opmode;
-        let lmode = self.lmode;
-        self.refused(Refusal::WrongMode(opmode, lmode))
+        self.refused(Refusal::WrongMode(self.opmode, self.lmode))
     }
 
     // ---- writing
+
+    fn with_entries(self, entries: Entries) -> Self
+        ensures { node_of result ≡ with_entries (node_of self) (entries_of entries) }
+    {
+        NodeRecord { entries, ..self }
+    }
 
     // The id entered as recent, if there is room.
     fn enter(self, id: WriteId) -> NodeStep
@@ -235,9 +195,7 @@ impl NodeRecord {
         if Entries::LIMIT <= self.entries.count {
             return self.refused(Refusal::Full);
         }
-        let mut node = self;
-        node.entries = self.entries.enter(id);
-        node.accepted()
+        self.with_entries(self.entries.enter(id)).accepted()
     }
 
     pub fn swap(self, id: WriteId) -> NodeStep
@@ -274,13 +232,10 @@ impl NodeRecord {
         if !self.takes_add() {
             return self.wrong_mode();
         }
-        let epoch = self.epoch;
-        if write.epoch.0 < epoch.0 {
-            return self.refused(Refusal::OldEpoch(epoch));
+        if write.epoch.0 < self.epoch.0 {
+            return self.refused(Refusal::OldEpoch(self.epoch));
         }
-        let id = write.id;
-        let previous = write.previous;
-        self.enter_after(previous, id)
+        self.enter_after(write.previous, write.id)
     }
 
     // What the node tells of a write whose id it was sent.
@@ -288,12 +243,10 @@ impl NodeRecord {
         requires { self.entries.count ≤ entry_limit }
         ensures { result ≡ check_answer write (node_of self) }
     {
-        let id = write.id;
-        let previous = write.previous;
-        if !self.entries.has_recent(id) {
+        if !self.entries.has_recent(write.id) {
             return CheckAnswer::Init;
         }
-        if self.entries.has_recent_previous(previous) {
+        if self.entries.has_recent_previous(write.previous) {
             CheckAnswer::NoChange
         } else {
             CheckAnswer::Gc
@@ -304,9 +257,8 @@ impl NodeRecord {
         requires { self.entries.count ≤ entry_limit }
         ensures { result ≡ record { answer = check_answer write (node_of self); node = self } }
     {
-        let answer = self.told(write);
         CheckStep {
-            answer: answer,
+            answer: self.told(write),
             node: self,
         }
     }
@@ -318,9 +270,7 @@ impl NodeRecord {
         if !self.is_free() {
             return self.wrong_mode();
         }
-        let mut node = self;
-        node.entries = self.entries.discard(moved);
-        node.accepted()
+        self.with_entries(self.entries.discard(moved)).accepted()
     }
 
     pub fn mark(self, finished: Ids) -> NodeStep
@@ -330,9 +280,8 @@ impl NodeRecord {
         if !self.is_free() {
             return self.wrong_mode();
         }
-        let mut node = self;
-        node.entries = self.entries.mark_old(finished);
-        node.accepted()
+        self.with_entries(self.entries.mark_old(finished))
+            .accepted()
     }
 
     // ---- rebuild
@@ -340,25 +289,17 @@ impl NodeRecord {
     fn with_lmode(self, lmode: Lmode, holder: Option<u8>) -> Self
         ensures { node_of result ≡ with_lmode (node_of self) lmode holder }
     {
-        let opmode = self.opmode;
-        let epoch = self.epoch;
-        let rset = self.rset;
-        let entries = self.entries;
         NodeRecord {
-            opmode: opmode,
-            lmode: lmode,
-            holder: holder,
-            epoch: epoch,
-            rset: rset,
-            entries: entries,
+            lmode,
+            holder,
+            ..self
         }
     }
 
     pub fn lock(self, c: u8) -> NodeStep
         ensures { MeetsAtNode (lock_answer (node_of self)) (locked_by c (node_of self)) self result }
     {
-        let lmode = self.lmode;
-        if lmode.is_locked() {
+        if self.lmode.is_locked() {
             return self.refused(Refusal::Locked);
         }
         self.locked_by(c).accepted()
@@ -376,8 +317,7 @@ impl NodeRecord {
     pub fn weaken(self, c: u8) -> NodeStep
         ensures { MeetsAtNode (weaken_answer c (node_of self)) (weakened_by c (node_of self)) self result }
     {
-        let opmode = self.opmode;
-        if opmode.is_recons() {
+        if self.opmode.is_recons() {
             return self.refused(Refusal::OutOfPhase);
         }
         if !self.held_by(c) {
@@ -445,9 +385,7 @@ impl NodeRecord {
         if Entries::LIMIT < self.entries.count {
             return self.refused(Refusal::OutOfLimits);
         }
-        let mut node = self;
-        node.entries = self.entries.tick();
-        node.accepted()
+        self.with_entries(self.entries.tick()).accepted()
     }
 
     // ---- the record after a call
@@ -489,16 +427,11 @@ impl NodeRecord {
     fn written(self, epoch: Epoch, set: NodeSet) -> Self
         ensures { node_of result ≡ written epoch (node_set_of set) (node_of self) }
     {
-        let lmode = self.lmode;
-        let holder = self.holder;
-        let entries = self.entries;
         NodeRecord {
             opmode: Opmode::Recons,
-            lmode: lmode,
-            holder: holder,
-            epoch: epoch,
+            epoch,
             rset: set,
-            entries: entries,
+            ..self
         }
     }
 
@@ -506,17 +439,12 @@ impl NodeRecord {
         requires { epoch.0 < epoch_limit }
         ensures { node_of result ≡ settled epoch (node_of self) }
     {
-        let lmode = self.lmode;
-        let holder = self.holder;
-        let rset = NodeSet::none();
-        let entries = Entries::none();
         NodeRecord {
             opmode: Opmode::Norm,
-            lmode: lmode,
-            holder: holder,
             epoch: Epoch(epoch.0 + 1),
-            rset: rset,
-            entries: entries,
+            rset: NodeSet::none(),
+            entries: Entries::none(),
+            ..self
         }
     }
 }

@@ -6,8 +6,7 @@ use Rattle.layout.specs.Layout.{node_for, position_of, stripe_of}
 use Rattle.machine.specs.Calls.{Call, Read, Pick, Swap, Fail, Due, Tick, At, By, step}
 use Rattle.machine.specs.Calls as Calls
 use Rattle.machine.specs.Stripe.{Stripe, Accepted, Outcome, answered, guard, number}
-use Rattle.records.specs.declared.ClientCall.{ClientCall}
-use Rattle.records.specs.declared.ClientCall.TheVariants.{Drop, Sweep, Stop, Lock, Weaken, Tighten, Write, Settle, Unlock, Quit}
+pub use Rattle.records.specs.Calls.{is_stop}
 use Rattle.records.specs.declared.Refusal.TheVariants.{OutOfLimits, OutOfRange}
 use Rattle.records.specs.declared.Sizes.{Sizes}
 use Rattle.records.specs.Sizes.{sizes_within}
@@ -34,18 +33,6 @@ put_stripe s stripe v = record { stripes = set_at v.stripes (suc s) stripe }
 pub record VolumeCall : Type 0 where
   pub stripe : ℕ
   pub call : Call
-
-abbrev pub is_stop : ClientCall → Bool
-is_stop Drop = false
-is_stop Sweep = false
-is_stop Stop = true
-is_stop Lock = false
-is_stop Weaken = false
-is_stop Tighten = false
-is_stop Write = false
-is_stop Settle = false
-is_stop Unlock = false
-is_stop Quit = false
 
 abbrev pub is_of_each : Call → Bool
 is_of_each (Read i) = false

@@ -11,4 +11,4 @@ returns-then-self-ge-LIMIT c = let s = c.args.self.entries in
 
 pub returns : goal.returns
 returns c = let s = c.args.self.entries in
-    meets-accepted c.accepted.ensures (rw (entries-count s, lt-leb entry_limit s.count c.if-self-ge-LIMIT.false)) (rw c.enter-node.ensures)
+    meets-accepted c.accepted.ensures (rw (entries-count s, lt-leb entry_limit s.count c.if-self-ge-LIMIT.false)) (rw (c.with_entries.ensures, c.enter.ensures))

@@ -7,4 +7,4 @@ pub returns-then-not-is_free : goal.returns-then-not-is_free
 returns-then-not-is_free c = meets-refused c.wrong_mode.ensures (search tests)
 
 pub returns : goal.returns
-returns c = meets-accepted c.accepted.ensures (search tests) (rw c.mark_old-node.ensures)
+returns c = meets-accepted c.accepted.ensures (search tests) (rw (c.with_entries.ensures, c.mark_old.ensures))

@@ -11,4 +11,4 @@ returns-then-self-gt-LIMIT c = let s = c.args.self.entries in
 
 pub returns : goal.returns
 returns c = let s = c.args.self.entries in
-    meets-accepted c.accepted.ensures (rw (entries-count s, le-ltb entry_limit s.count c.if-self-gt-LIMIT.false)) (rw c.tick-node.ensures)
+    meets-accepted c.accepted.ensures (rw (entries-count s, le-ltb entry_limit s.count c.if-self-gt-LIMIT.false)) (rw (c.with_entries.ensures, c.tick.ensures))

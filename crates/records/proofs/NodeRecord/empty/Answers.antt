@@ -1,5 +1,0 @@
--- By the parts. Assumes nothing.
-use Rattle.records.proofs.NodeRecord.empty.Goals as goal
-
-pub returns : goal.returns
-returns c = rw (c.none-rset.ensures, c.none-entries.ensures)
