@@ -31,8 +31,8 @@ fn data_byte(s: Sizes, q: u16) -> u8
 fn fill_data(s: Sizes, data: &mut [u8])
     requires { Within s × (length «data».old ≤ data_limit * block_limit) }
 {
-    for q in 0..data.len() {
-        data[q] = data_byte(s, q as u16);
+    for (q, byte) in data.iter_mut().enumerate() {
+        *byte = data_byte(s, q as u16);
     }
 }
 
@@ -41,8 +41,8 @@ fn join(word: &mut [u8], data: &[u8], redundant: &[u8])
     requires { length word.old ≡ length «data».now + length redundant.now }
 {
     let middle = data.len();
-    blocks::copy(&mut word[0..middle], data);
-    blocks::copy(&mut word[middle..], redundant);
+    word[..middle].copy_from_slice(data);
+    word[middle..].copy_from_slice(redundant);
 }
 
 // The case's first line.
@@ -77,7 +77,7 @@ fn print_lent<W: Write>(
     requires data_len_bound { (length «data».old ≤ data_limit * block_limit) × (length word.old ≡ length «data».old + length redundant.old) }
 {
     fill_data(s, data);
-    coding::encode(s.k, s.n, s.b, data, redundant);
+    let _ = coding::encode(s.k, s.n, s.b, data, redundant);
     join(word, data, redundant);
     print_codeword(to, s, redundant)?;
     decodings::print(to, s, word, table, data, redundant)

@@ -5,8 +5,8 @@ fn after(h: u32, byte: u8) -> u32 {
 }
 
 pub fn after_all(mut h: u32, bytes: &[u8]) -> u32 {
-    for i in 0..bytes.len() {
-        h = after(h, bytes[i]);
+    for byte in bytes {
+        h = after(h, *byte);
     }
     h
 }

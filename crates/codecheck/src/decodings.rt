@@ -34,11 +34,11 @@ fn decoded(
     let k = s.k;
     let b = s.b;
     let lost = [0xA5u8; Limits::BLOCK_MOST];
-    blocks::copy(table, word);
+    table.copy_from_slice(word);
     lose(s, set, &lost[0..b], table);
     let members = sets::members(set, s.n);
-    coding::decode(k, s.n, b, &members[0..k], table, data);
-    coding::encode(k, s.n, b, data, redundant);
+    let _ = coding::decode(k, s.n, b, &members[0..k], table, data);
+    let _ = coding::encode(k, s.n, b, data, redundant);
     checksum::after_all(checksum::after_all(h, data), redundant)
 }
 

@@ -5,8 +5,8 @@ use std::io::{Result, Write};
 // a times 0 to 255.
 fn products(a: u8) -> [u8; 256] {
     let mut row = [0u8; 256];
-    for b in 0..256 {
-        row[b] = gf256::product(a, b as u8);
+    for (b, entry) in row.iter_mut().enumerate() {
+        *entry = gf256::product(a, b as u8);
     }
     row
 }
@@ -14,8 +14,8 @@ fn products(a: u8) -> [u8; 256] {
 // The inverses of 1 to 255.
 fn inverses() -> [u8; 255] {
     let mut row = [0u8; 255];
-    for i in 0..255 {
-        row[i] = gf256::inverse(i as u8 + 1);
+    for (i, entry) in row.iter_mut().enumerate() {
+        *entry = gf256::inverse(i as u8 + 1);
     }
     row
 }

@@ -50,8 +50,8 @@ impl Line {
     }
 
     pub fn bytes(mut self, bytes: &[u8]) -> Self {
-        for i in 0..bytes.len() {
-            self = self.byte(bytes[i]);
+        for b in bytes {
+            self = self.byte(*b);
         }
         self
     }

@@ -15,13 +15,12 @@ const TURNS: u64 = u64::MAX;
 
 // Answers the lines that end among the bytes; what is read of the line after them.
 fn feed<W: Write>(to: &mut W, mut reader: Reader, input: &[u8]) -> Result<Reader> {
-    for i in 0..input.len() {
-        let byte = input[i];
-        if byte == LF {
+    for byte in input {
+        if *byte == LF {
             print(to, reader.answer())?;
             reader = Reader::new();
         } else {
-            reader = reader.step(byte);
+            reader = reader.step(*byte);
         }
     }
     Ok(reader)

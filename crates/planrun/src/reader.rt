@@ -1,31 +1,27 @@
 // A line, read byte by byte: n-k, the group sizes joined by dots, and t_p, one space apart; numbers may have any length.
 ghost use Rattle.std.specs.Prelude.{◌<◌};
 
-use planning::PlanAnswer;
-
-const SPACE: u8 = b' ';
-
-const DOT: u8 = b'.';
+use planning::{PlanRefusal, Planned};
 
 // The fields, in order: n-k, the sizes, t_p.
-const REDUNDANT: u8 = 0;
-
-const SIZES: u8 = 1;
-
-const STOPS: u8 = 2;
+#[derive(Clone, Copy)]
+enum Field {
+    Redundant,
+    Sizes,
+    Stops,
+}
 
 // One more than a stripe has groups: of more sizes the others may go.
 const SIZES_KEPT: usize = 7;
 
-// What the line has come to: its field, the number there, and n-k and the sizes before that.
+// What the line has come to: its field, the number there if it has a digit, and n-k and the sizes before that.
 #[derive(Clone, Copy)]
 pub struct Reader {
     redundant: u8,
-    sizes: [u8; 7],
+    sizes: [u8; SIZES_KEPT],
     count: usize,
-    field: u8,
-    number: u8,
-    has_digit: bool,
+    field: Field,
+    number: Option<u8>,
     is_unreadable: bool,
     pub is_begun: bool,
 }
@@ -38,9 +34,14 @@ fn grown(n: u8, digit: u8) -> u8
 }
 
 // The plan for the first of the sizes.
-fn plan_first(redundant: u8, sizes: &[u8], count: usize, stops: u8) -> PlanAnswer {
+fn plan_first(
+    redundant: u8,
+    sizes: &[u8],
+    count: usize,
+    stops: u8,
+) -> Result<Planned, PlanRefusal> {
     if sizes.len() < count {
-        return PlanAnswer::OutOfLimits;
+        return Err(PlanRefusal::OutOfLimits);
     }
     planning::plan(redundant as usize, &sizes[0..count], stops as usize)
 }
@@ -52,9 +53,8 @@ impl Reader {
             redundant: 0,
             sizes,
             count: 0,
-            field: REDUNDANT,
-            number: 0,
-            has_digit: false,
+            field: Field::Redundant,
+            number: None,
             is_unreadable: false,
             is_begun: false,
         }
@@ -65,86 +65,66 @@ impl Reader {
         self
     }
 
-    // The number was a size.
-    fn with_size(mut self) -> Self {
+    // One size more.
+    fn with_size(mut self, size: u8) -> Self {
         let at = self.count;
         if at < SIZES_KEPT {
-            self.sizes[at] = self.number;
+            self.sizes[at] = size;
             self.count = at + 1;
         }
         self
     }
 
     // Another number begins, in that field.
-    fn begin(mut self, field: u8) -> Self {
+    fn begin(mut self, field: Field) -> Self {
         self.field = field;
-        self.number = 0;
-        self.has_digit = false;
+        self.number = None;
         self
     }
 
     fn after_space(mut self) -> Self {
-        if !self.has_digit {
-            return self.spoiled();
+        match (self.field, self.number) {
+            (Field::Redundant, Some(redundant)) => {
+                self.redundant = redundant;
+                self.begin(Field::Sizes)
+            }
+            (Field::Sizes, Some(size)) => self.with_size(size).begin(Field::Stops),
+            _ => self.spoiled(),
         }
-        if self.field == REDUNDANT {
-            self.redundant = self.number;
-            return self.begin(SIZES);
-        }
-        if self.field == SIZES {
-            return self.with_size().begin(STOPS);
-        }
-        self.spoiled()
     }
 
     fn after_dot(self) -> Self {
-        if !self.has_digit {
-            return self.spoiled();
+        match (self.field, self.number) {
+            (Field::Sizes, Some(size)) => self.with_size(size).begin(Field::Sizes),
+            _ => self.spoiled(),
         }
-        if self.field != SIZES {
-            return self.spoiled();
-        }
-        self.with_size().begin(SIZES)
     }
 
     fn after_digit(mut self, digit: u8) -> Self
         requires { digit < 10 }
     {
-        self.number = grown(self.number, digit);
-        self.has_digit = true;
+        self.number = Some(grown(self.number.unwrap_or(0), digit));
         self
     }
 
     // The next byte of the line.
     pub fn step(mut self, byte: u8) -> Self {
         self.is_begun = true;
-        if byte == SPACE {
-            return self.after_space();
+        match byte {
+            b' ' => self.after_space(),
+            b'.' => self.after_dot(),
+            b'0'..=b'9' => self.after_digit(byte - b'0'),
+            _ => self.spoiled(),
         }
-        if byte == DOT {
-            return self.after_dot();
-        }
-        if byte < b'0' {
-            return self.spoiled();
-        }
-        if b'9' < byte {
-            return self.spoiled();
-        }
-        self.after_digit(byte - b'0')
     }
 
     // The line ends.
-    pub fn answer(self) -> PlanAnswer {
-        if self.is_unreadable {
-            return PlanAnswer::OutOfLimits;
+    pub fn answer(self) -> Result<Planned, PlanRefusal> {
+        match (self.field, self.number) {
+            (Field::Stops, Some(stops)) if !self.is_unreadable => {
+                plan_first(self.redundant, &self.sizes, self.count, stops)
+            }
+            _ => Err(PlanRefusal::OutOfLimits),
         }
-        if !self.has_digit {
-            return PlanAnswer::OutOfLimits;
-        }
-        if self.field != STOPS {
-            return PlanAnswer::OutOfLimits;
-        }
-        let sizes = self.sizes;
-        plan_first(self.redundant, &sizes, self.count, self.number)
     }
 }
