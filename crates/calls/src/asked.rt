@@ -34,7 +34,7 @@ fn looks_by(op: ClientCall) -> bool
 }
 
 impl StepCall {
-    // Its client, 0 if it has none.
+    // Its client, 0 if it has none. (No Option: client 0 is looked for as any other, and no table has it.)
     pub fn caller(self) -> u8
         ensures { result ≡ caller self }
     {
@@ -48,7 +48,7 @@ impl StepCall {
         }
     }
 
-    // The node that it is at, 0 if it is at none; by its client's record.
+    // The node that it is at, 0 if it is at none; by its client's record. (No Option: node 0 is looked for as any other, and no table has it.)
     pub fn target(self, z: Sizes, client: ClientRecord) -> usize
         ensures { result ≡ target z self (client_of client) }
     {

@@ -29,7 +29,8 @@ pub enum StepCall {
 }
 
 // What a call is answered. All but the last are accepted: Shown is a read's and tells where the block lies, Added and Done are an add's, Rebuilt is that
-// of the settle that finishes a rebuild, Told that of a call that asks.
+// of the settle that finishes a rebuild, Told that of a call that asks. (An enum and no Result: document 01 has one table of answers, and two of its
+// refusals, 9 and 10, change the stripe.)
 #[derive(Clone, Copy)]
 pub enum Answer {
     Accepted,

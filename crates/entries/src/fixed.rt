@@ -50,6 +50,7 @@ impl<T: Copy, const N: usize> Few<T, N> {
         ensures count { result.count ≡ self.count }
         ensures each { (d : T) (i : ℕ) → i < self.count → F.post change (get_or self.items i d) (get_or result.items i d) }
     {
+        // (By the place: of a `for` over a part of self that is lent for writing nothing is known after it.)
         for i in 0..self.count {
             self.items[i] = change(self.items[i]);
         }

@@ -72,6 +72,7 @@ impl Entry {
 }
 
 impl Entries {
+    // (Not N for every list: a constant of an impl with a const parameter is a call, whose value the proofs do not have.)
     pub const LIMIT: usize = 16;
 
     pub fn none() -> Self

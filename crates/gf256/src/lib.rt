@@ -11,7 +11,7 @@ pub mod powers; // powers.rt: the power table
 
 // ---- 0
 
-// 0 where a is 0, and else 1.
+// 0 where a is 0, and else 1. (Numbers and no test or Option, here and below: a product has no branch.)
 fn nonzero(a: u8) -> usize
     ensures { (result ≤ 1) × (a ≡ 0 → result ≡ 0) × (0 < a → result ≡ 1) }
 {

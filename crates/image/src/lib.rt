@@ -58,7 +58,7 @@ impl Places {
     }
 }
 
-// The length of the image; 0 for sizes outside the limits, which have none.
+// The length of the image; 0 for sizes outside the limits, which have none. (No Option: C has it as a number, mezgaudre_image_length.)
 pub fn length(z: Sizes) -> usize
     ensures { result ≡ length_by z }
 {

@@ -49,7 +49,7 @@ fn combine(out: &mut [u8], m: usize, b: usize, t: &[u8], starts: &[usize; SOURCE
     }
 }
 
-// Where the block of the qth of the nodes starts, q from 0; of none 0.
+// Where the block of the qth of the nodes starts, q from 0; of none 0. (No Option: it is read there with the weight 0.)
 fn start_of(nodes: &[u8], b: usize, q: usize) -> usize
     requires { Nodes nodes.now × (b ≤ length_limit) }
     ensures { result ≡ start_of nodes.now b q }

@@ -44,6 +44,7 @@ pub fn sums(s: &mut [u8], w: [u8; 16], x: [u8; 16], y: [u8; 16], z: [u8; 16])
     requires { length s.old ≡ 256 }
     ensures { s.new ≡ list_of 256 (λ i. chosen (i / 16) (get_or w (i % 16) 0) (get_or x (i % 16) 0) (get_or y (i % 16) 0) (get_or z (i % 16) 0)) }
 {
+    // (By the place: each turn writes sixteen places of s, sixteen apart.)
     for i in 0..16 {
         let a = w[i];
         let b = x[i];

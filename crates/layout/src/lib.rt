@@ -13,7 +13,8 @@ pub struct Home {
     pub position: u8,
 }
 
-// Block b's, counted from 0; position 0 if k is not 1 to 12.
+// Block b's, counted from 0; position 0 if k is not 1 to 12. (0 and no Option, here and below: C has these as numbers, mezgaudre_block_position,
+// mezgaudre_card, mezgaudre_node_on.)
 pub fn block_home(k: usize, b: usize) -> Home
     ensures { result ≡ home_of k b }
 {

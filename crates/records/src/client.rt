@@ -173,6 +173,7 @@ impl ClientRecord {
         }
     }
 
+    // (A match, since either arm is a test of its own.)
     fn is_hand_within(self, z: Sizes) -> bool
         ensures { result ≡ hand_within z (client_of self).hand (client_of self).finished }
     {

@@ -50,7 +50,8 @@ pub struct Write {
 }
 
 // How far a rebuild is: how many nodes are locked, and which of them were EXP; the lowest node not tightened since the weaken, 0 if there is
-// none; from then on the next node of the phase, with the set picked and E for as long as they are needed.
+// none; from then on the next node of the phase, with the set picked and E for as long as they are needed. (0 and no Option: it is the number of the node
+// that the rebuild is at, and there is no node 0.)
 #[derive(Clone, Copy)]
 pub enum Phase {
     NoRebuild,

@@ -122,7 +122,7 @@ impl NodeRecord {
         self.lmode.is_l1() && self.has_holder(c)
     }
 
-    // The client that holds it, 0 if none does.
+    // The client that holds it, 0 if none does. (No Option: client 0 is looked for as any other, and no table has it.)
     pub fn holder_number(self) -> u8
         ensures { result ≡ holder_of (node_of self) }
     {
@@ -136,7 +136,7 @@ impl NodeRecord {
         self.opmode.is_init() || self.entries.has_due()
     }
 
-    // A holder at L0 and L1 alone, and it is one of the clients.
+    // A holder at L0 and L1 alone, and it is one of the clients. (A match, since either arm is a test of its own.)
     fn is_holder_within(self, z: Sizes) -> bool
         ensures { result ≡ holder_within z self.lmode self.holder }
     {
@@ -208,7 +208,7 @@ impl NodeRecord {
         }
     }
 
-    // The id entered, if the previous one is listed.
+    // The id entered, if the previous one is listed. (A match, since either arm is a step of its own.)
     fn enter_after(self, previous: Option<WriteId>, id: WriteId) -> NodeStep
         requires { self.entries.count ≤ entry_limit }
         ensures { MeetsAtNode (after_previous previous (node_of self) (enter_answer (node_of self))) (entered id (node_of self)) self result }

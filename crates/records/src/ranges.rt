@@ -11,6 +11,8 @@ impl Sizes {
 
     pub const NODES: usize = NodeSet::NODES;
 
+    // (No type for sizes that are within: each call asks this first and goes on in the same &&, or after a refusal, and would make such a value and take it
+    // apart.)
     pub fn within(self) -> bool
         ensures { result ≡ sizes_within self }
     {

@@ -31,6 +31,7 @@ pub(crate) fn ids_bytes(s: Ids) -> [u8; 49]
 {
     let mut out = [0u8; 49];
     out[0] = s.count as u8;
+    // (By the place, at which the bytes are put too.)
     for i in 0..Ids::LIMIT {
         let x = if i < s.count { s.items[i] } else { blank_id() };
         put(&mut out, 1 + i * 6, &id_bytes(x));

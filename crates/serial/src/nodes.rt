@@ -69,6 +69,7 @@ fn entries_bytes(s: Entries) -> [u8; 129]
 {
     let mut out = [0u8; 129];
     out[0] = s.count as u8;
+    // (By the place, at which the bytes are put too.)
     for i in 0..Entries::LIMIT {
         let e = if i < s.count {
             s.items[i]

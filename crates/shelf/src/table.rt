@@ -61,6 +61,7 @@ pub(crate) fn change(nodes: &mut [NodeRecord], change: Change)
     ensures same { change ≡ keep → nodes.new ≡ nodes.old }
 {
     let n = nodes.len();
+    // (By the place: what becomes of a node depends on it.)
     for i in change.first(n)..change.end(n) {
         nodes[i] = change.made(i, nodes[i]);
     }

@@ -96,6 +96,7 @@ impl Nodes {
         requires { n ≤ node_limit }
         ensures { nodes_of n result ≡ applied change (nodes_of n self) }
     {
+        // (By the place: what becomes of a node depends on it.)
         for i in change.first(n)..change.end(n) {
             self.items[i] = change.made(i, self.items[i]);
         }

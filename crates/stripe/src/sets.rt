@@ -107,7 +107,7 @@ impl Nodes {
         out
     }
 
-    // The recent ids of nodes 1 to n.
+    // The recent ids of nodes 1 to n. (This loop and those below go by the place, which is the number of the node less 1.)
     fn recents(self, n: usize) -> Recents
         requires { (n ≤ node_limit) × Counted n self }
         ensures { Knows n self result }

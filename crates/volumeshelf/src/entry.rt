@@ -21,6 +21,7 @@ fn on_stripe(
     ensures { MakesPart nodes.old clients.old blocks.old spare.old differences.old
         value.now request result nodes.new clients.new blocks.new spare.new differences.new }
 {
+    // (Cut here: a function that hands on a part of a table for writing gets no proof without one by hand.)
     let n = request.nodes_part(nodes.len());
     let c = request.clients_part(clients.len());
     let b = request.blocks_part(blocks.len());
