@@ -110,8 +110,7 @@ fn step_write(z: Sizes, j: u8, write: Write, node: NodeRecord, client: ClientRec
         return AtNode::refused(node, client, Refusal::OutOfPhase);
     }
     let step = node.add(write);
-    let answer = step.answer;
-    if let Err(why) = answer {
+    if let Err(why) = step.answer {
         return AtNode::refused(node, client, why);
     }
     let entered = step.node;
@@ -119,9 +118,9 @@ fn step_write(z: Sizes, j: u8, write: Write, node: NodeRecord, client: ClientRec
     let answer = joined.answer;
     let client = joined.client;
     AtNode {
-        answer: answer,
+        answer,
         node: entered,
-        client: client,
+        client,
     }
 }
 
@@ -136,8 +135,7 @@ fn step_records(z: Sizes, c: u8, j: u8, node: NodeRecord, client: ClientRecord) 
     if !is_in_range(z, c, j) {
         return AtNode::refused(node, client, Refusal::OutOfRange);
     }
-    let hand = client.hand;
-    match hand {
+    match client.hand {
         None => AtNode::refused(node, client, Refusal::OutOfPhase),
         Some(write) => step_write(z, j, write, node, client),
     }
@@ -167,8 +165,7 @@ pub fn add(
         return stepped;
     }
     let b = z.b;
-    let hand = client.hand;
-    if let Some(write) = hand {
+    if let Some(write) = client.hand {
         add_bytes(b, c, j, write.id.position, blocks, differences);
     }
     stepped

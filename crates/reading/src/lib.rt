@@ -22,14 +22,10 @@ use stripe::Seen;
 pub fn has_picked(client: ClientRecord) -> bool
     ensures { result ≡ has_picked (client_of client).rebuild }
 {
-    let phase = client.phase;
-    match phase {
-        Phase::NoRebuild => false,
-        Phase::Locking(_, _) => false,
-        Phase::Picking(_) => false,
-        Phase::Writing(_, _, _) => true,
-        Phase::Settling(_, _) => true,
+    match client.phase {
+        Phase::Writing(_, _, _) | Phase::Settling(_, _) => true,
         Phase::Unlocking(_) => true, // till it ends
+        _ => false,
     }
 }
 
@@ -51,9 +47,7 @@ fn spare_fits(z: Sizes, seen: Seen, client: ClientRecord, spare: usize) -> bool
 fn wrong_mode(node: NodeRecord) -> Answer
     ensures { result ≡ Answer.Refused (wrong_mode (node_of node)) }
 {
-    let opmode = node.opmode;
-    let lmode = node.lmode;
-    Answer::Refused(Refusal::WrongMode(opmode, lmode))
+    Answer::Refused(Refusal::WrongMode(node.opmode, node.lmode))
 }
 
 // What a read of position i is answered. It is handed the record of node i, that of the client that holds it, what is seen of all nodes if that client

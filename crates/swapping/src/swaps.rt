@@ -66,7 +66,7 @@ fn next_id(c: u8, i: u8, client: ClientRecord) -> WriteId
     WriteId {
         client: c,
         position: i,
-        number: number,
+        number,
     }
 }
 
@@ -98,8 +98,7 @@ fn step_records(z: Sizes, c: u8, i: u8, node: NodeRecord, client: ClientRecord) 
     }
     let id = next_id(c, i, client);
     let step = node.swap(id);
-    let answer = step.answer;
-    if let Err(why) = answer {
+    if let Err(why) = step.answer {
         return AtNode::refused(node, client, why);
     }
     if Ids::LIMIT <= client.finished.count {
