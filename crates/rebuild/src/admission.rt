@@ -20,9 +20,9 @@ impl Stepped {
         ensures { result ≡ record { answer = answer; node = node; client = client; change = keep } }
     {
         Stepped {
-            answer: answer,
-            node: node,
-            client: client,
+            answer,
+            node,
+            client,
             change: Change::keep(),
         }
     }
@@ -40,7 +40,7 @@ impl Stepped {
     {
         Stepped {
             answer: Answer::Refused(Refusal::NotHeld),
-            node: node,
+            node,
             client: client.end_rebuild(),
             change: Change::expire(c),
         }
@@ -80,8 +80,7 @@ pub fn go_on(
     ensures { (after : Node → Node) → NodeSteps.MeetsAtNode (held_answer c (node_of node)) (after (node_of node)) node step →
         Steps (at_own after) z c seen node client result }
 {
-    let answer = step.answer;
-    match answer {
+    match step.answer {
         Ok(()) => Stepped::answered(Answer::Accepted, step.node, client.advance(z.n)),
         Err(_) => Stepped::lost(z, c, seen, node, client),
     }

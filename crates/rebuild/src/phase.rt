@@ -9,13 +9,5 @@ use records::{ClientRecord, Phase};
 pub fn is_picking(client: ClientRecord) -> bool
     ensures { result ≡ is_picking (client_of client).rebuild }
 {
-    let phase = client.phase;
-    match phase {
-        Phase::NoRebuild => false,
-        Phase::Locking(_, _) => false,
-        Phase::Picking(j) => j == 0,
-        Phase::Writing(_, _, _) => false,
-        Phase::Settling(_, _) => false,
-        Phase::Unlocking(_) => false,
-    }
+    matches!(client.phase, Phase::Picking(0))
 }

@@ -29,8 +29,7 @@ fn check_write(j: u8, write: Write, node: NodeRecord, client: ClientRecord) -> O
         return OfClient::refused(client, Refusal::OutOfPhase);
     }
     let asked = node.check(write);
-    let told = asked.answer;
-    match told {
+    match asked.answer {
         CheckAnswer::Init => OfClient {
             answer: Answer::Told(Finding::Check(CheckAnswer::Init)),
             client: client.leave(write, j),
@@ -41,7 +40,7 @@ fn check_write(j: u8, write: Write, node: NodeRecord, client: ClientRecord) -> O
         },
         CheckAnswer::NoChange => OfClient {
             answer: Answer::Told(Finding::Check(CheckAnswer::NoChange)),
-            client: client,
+            client,
         },
     }
 }
@@ -58,8 +57,7 @@ pub fn check(z: Sizes, c: u8, j: u8, node: NodeRecord, client: ClientRecord) -> 
     if !is_in_range(z, c, j) {
         return OfClient::refused(client, Refusal::OutOfRange);
     }
-    let hand = client.hand;
-    match hand {
+    match client.hand {
         None => OfClient::refused(client, Refusal::OutOfPhase),
         Some(write) => check_write(j, write, node, client),
     }

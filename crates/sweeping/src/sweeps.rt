@@ -40,8 +40,7 @@ fn sweep_node(z: Sizes, node: NodeRecord, client: ClientRecord) -> AtNode
         ((result.node ≡ node) × (result.client ≡ client)) }
 {
     let step = sweep_entries(z, node, client);
-    let answer = step.answer;
-    match answer {
+    match step.answer {
         Err(why) => AtNode::refused(node, client, why),
         Ok(()) => {
             let swept = step.node;
