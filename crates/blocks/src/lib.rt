@@ -23,7 +23,7 @@ pub fn copy(dst: &mut [u8], src: &[u8])
     dst.copy_from_slice(src);
 }
 
-// The value into the block, and what it differs by from the old block into the difference.
+// The value into the block, and what it differs by from the old block into the difference. (By the place: two slices are written.)
 pub fn swap(block: &mut [u8], difference: &mut [u8], value: &[u8])
     requires { (length block.old ≡ length value.now) × (length difference.old ≡ length value.now) }
     ensures block { block.new ≡ value.now }
@@ -35,7 +35,7 @@ pub fn swap(block: &mut [u8], difference: &mut [u8], value: &[u8])
     }
 }
 
-// dst plus c times src.
+// dst plus c times src. (By the place: after a zip over iter_mut nothing is known of what it wrote.)
 pub fn add_times(dst: &mut [u8], src: &[u8], c: u8)
     requires { length dst.old ≡ length src.now }
     ensures { dst.new ≡ add_times c dst.old src.now }

@@ -27,6 +27,7 @@ impl NodeSet {
         NodeSet { bits: 0 }
     }
 
+    // (By two comparisons: with (1..=NODES).contains(&j) the proof did not close.)
     pub fn contains(self, j: usize) -> bool
         ensures { result ≡ Decode.has (node_set_of self) j }
     {

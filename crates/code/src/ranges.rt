@@ -15,7 +15,7 @@ impl Limits {
 
     pub const BLOCK_MOST: usize = 4096;
 
-    // Whether the code has k data blocks of n, each of b bytes.
+    // Whether the code has k data blocks of n, each of b bytes. (In one &&, or with (a..=b).contains(&k), the proof did not close.)
     pub fn hold(k: usize, n: usize, b: usize) -> bool
         ensures { result ≡ code_sizes k n b }
     {
