@@ -38,8 +38,7 @@ fn settle_node(
         return Stepped::lost(z, c, seen, node, client);
     }
     let step = node.settle(c, e);
-    let answer = step.answer;
-    match answer {
+    match step.answer {
         Err(_) => Stepped::lost(z, c, seen, node, client),
         Ok(()) => Stepped::answered(settle_answer(z.n, j), step.node, client.advance(z.n)),
     }
@@ -49,8 +48,7 @@ fn settle_in(z: Sizes, c: u8, seen: Seen, node: NodeRecord, client: ClientRecord
     requires { Admitted z c seen client }
     ensures { Steps Rebuild.settle z c seen node client result }
 {
-    let phase = client.phase;
-    match phase {
+    match client.phase {
         Phase::Settling(j, e) => settle_node(z, c, seen, node, client, j, e),
         _ => Stepped::refused(node, client, Refusal::OutOfPhase),
     }

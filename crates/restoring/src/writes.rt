@@ -45,8 +45,7 @@ fn write_node(
         nodes node client blocks.new spare.now result }
 {
     let step = node.write(c, e, set);
-    let answer = step.answer;
-    match answer {
+    match step.answer {
         Err(_) => Stepped::lost(z, c, seen, node, client),
         Ok(()) => {
             copy_spare(blocks, spare, z.b, j as usize);
@@ -69,8 +68,7 @@ fn write_in(
         Stepping (Rebuild.write z c (whole nodes (client_of client) blocks.old spare.now))
         nodes node client blocks.new spare.now result }
 {
-    let phase = client.phase;
-    match phase {
+    match client.phase {
         Phase::Writing(j, set, e) => {
             write_node(z, c, seen, node, client, j, set, e, blocks, spare)
         }

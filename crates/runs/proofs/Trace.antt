@@ -20,6 +20,7 @@ use Rattle.records.specs.declared.Phase.TheVariants.{NoRebuild, Locking, Picking
 use Rattle.records.specs.declared.NodeCall.TheVariants.{Add}
 use Rattle.records.specs.declared.ClientCall.TheVariants.{Lock, Write, Settle}
 use Rattle.records.specs.declared.NodeRecord.{NodeRecord}
+use Rattle.records.specs.declared.Write as Hand
 use Rattle.records.specs.declared.ClientRecord.{ClientRecord}
 use Rattle.calls.specs.declared.Answer.{Answer}
 use Rattle.calls.specs.declared.Answer.TheVariants.{Accepted, Added, Done, Rebuilt}
@@ -46,7 +47,7 @@ node_with opmode lmode holder epoch rset es =
 abbrev ids_with : List WriteId → Few WriteId 8
 ids_with ids = record { items = ids ++ replicate (8 - length ids) blank_id; count = length ids }
 
-abbrev client_with : Option Write → Phase → List WriteId → ℕ → ClientRecord
+abbrev client_with : Option Hand.Write → Phase → List WriteId → ℕ → ClientRecord
 client_with hand phase finished next =
     record { hand = hand; phase = phase; finished = ids_with finished; moved = ids_with []; round = 0; next = record { 0 = next } }
 

@@ -7,10 +7,6 @@ use Rattle.rebuild.proofs.Phases.{others, out-of-phase}
 use Rattle.rebuild.proofs.Stepping.{steps-refused, steps-past}
 use Rattle.restoring.proofs.settles.settle_in.Goals as goal
 
-pub enum_known-phase : goal.enum_known-phase
-unfolding settle others
-enum_known-phase c = search rules
-
 pub settle_node-requires : goal.settle_node-requires
 unfolding settle others
 settle_node-requires c = (c.requires, c.in-Settling.is)
