@@ -16,7 +16,7 @@ pub fn stop(z: Sizes, c: u8, seen: Seen, node: NodeRecord, client: ClientRecord)
         Err(why) => Stepped::refused(node, client, why),
         Ok(()) => Stepped {
             answer: Answer::Accepted,
-            node: node,
+            node,
             client: client.stop(),
             change: Change::expire(c),
         },
