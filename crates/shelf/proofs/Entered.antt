@@ -44,7 +44,8 @@ use Rattle.taking.specs.Lent.{on_tables, stripe_in}
 use Rattle.taking.specs.Reads.{AnswersLent}
 use Rattle.taking.specs.Table.{clients_in, nodes_in}
 use Rattle.shelf.specs.Shelf.{ImagesLent, PicksOnly, StepsLent}
-use Rattle.shelf.proofs.Lists.{gathered, map-element, map-put, put-back}
+use Rattle.step.proofs.Items.{map-element, map-put}
+use Rattle.shelf.proofs.Lists.{gathered, put-back}
 
 -- the tables as they are lent
 module _ (ns : List NodeRecord) (cs : List ClientRecord) where

@@ -2,11 +2,11 @@
 ghost use Rattle.shelf.specs.Shelf.{ImagesLent, PicksOnly, StepsLent, ReadsLent};
 ghost use Rattle.taking.specs.Reads.{AnswersLent};
 
-use crate::table::{are_tables, change, gather, put_at, record_at, see};
+use crate::table::{are_tables, change, gather, see};
 use calls::{Answer, Reading};
 use reading::has_picked;
 use records::{ClientRecord, NodeRecord, Refusal, Sizes};
-use step::{Clients, Stripe};
+use step::{Clients, Stripe, put_at, record_at};
 use stripe::{Nodes, Seen};
 use taking::{PickRequest, ReadRequest, Request, SizedRead};
 

@@ -1,6 +1,5 @@
-// The lent tables. Records are counted from 1: record j is at place j - 1.
+// The lent tables.
 ghost use Rattle.std.specs.Prelude.{◌&&◌, ◌≡◌, ◌≤◌, eqb, length, take};
-ghost use Rattle.basics.specs.Lists.{element_at, set_at};
 ghost use Rattle.stripe.specs.Seen.{Sees, applied, keep};
 ghost use Rattle.taking.specs.Table.{nodes_in};
 
@@ -12,26 +11,6 @@ pub(crate) fn are_tables(nodes: &[NodeRecord], clients: &[ClientRecord], z: Size
     ensures { result ≡ (eqb (length nodes.now) z.n && eqb (length clients.now) z.m) }
 {
     nodes.len() == z.n && clients.len() == z.m
-}
-
-// Record j of a table; `absent` where there is none.
-pub(crate) fn record_at<T: Copy>(table: &[T], j: usize, absent: T) -> T
-    ensures { result ≡ element_at absent table.now j }
-{
-    if 1 <= j && j <= table.len() {
-        table[j - 1]
-    } else {
-        absent
-    }
-}
-
-// Record j of a table becomes `item`; where there is none, the table stays.
-pub(crate) fn put_at<T: Copy>(table: &mut [T], j: usize, item: T)
-    ensures { table.new ≡ set_at table.old j item }
-{
-    if 1 <= j && j <= table.len() {
-        table[j - 1] = item;
-    }
 }
 
 // The records of a table, in an array whose other places are `blank`.

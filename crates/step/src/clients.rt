@@ -7,6 +7,7 @@ ghost use Rattle.records.specs.View.{client_of};
 ghost use Rattle.records.specs.Sizes.{client_limit};
 ghost use Rattle.step.specs.View.{clients_of};
 
+use crate::record_at;
 use records::{ClientRecord, Sizes};
 
 // Client c is item c - 1; a stripe of m clients has the first m items.
@@ -19,9 +20,9 @@ impl Clients {
     pub fn fresh() -> Self
         ensures { (m : ℕ) → m ≤ client_limit → clients_of m result ≡ replicate m fresh_client }
     {
-        let client = ClientRecord::fresh();
-        let items = [client; Sizes::CLIENTS];
-        Clients { items }
+        Clients {
+            items: [ClientRecord::fresh(); Sizes::CLIENTS],
+        }
     }
 
     // The record of client c, or a fresh one where there is no such client.
@@ -29,16 +30,10 @@ impl Clients {
         requires { m ≤ client_limit }
         ensures { client_of result ≡ client_at (clients_of m self) c }
     {
-        let j = c as usize;
-        if j < 1 {
-            return ClientRecord::fresh();
-        }
-        if m < j {
-            return ClientRecord::fresh();
-        }
-        self.items[j - 1]
+        record_at(&self.items[..m], c as usize, ClientRecord::fresh())
     }
 
+    // Not by put_at on a part of the array: that proof did not close, as it has no name for the array after a store through a part.
     pub fn set(mut self, m: usize, c: u8, client: ClientRecord) -> Self
         requires { m ≤ client_limit }
         ensures { clients_of m result ≡ set_at (clients_of m self) c (client_of client) }

@@ -7,6 +7,7 @@ mod nodes; // nodes.rt: one node of a stripe, or the failed one where there is n
 mod plays; // plays.rt: any call on a stripe by value
 mod reads; // reads.rt: a read on a stripe by value
 mod steps; // steps.rt: every call but read and pick, on the records that it is handed
+mod table; // table.rt: a record of a table by its number
 
 ghost use Rattle.std.specs.Prelude.{◌≡◌};
 ghost use Rattle.step.specs.View.{Fresh};
@@ -17,6 +18,7 @@ pub use plays::play;
 pub use reads::{read, read_answer};
 pub use steps::step;
 use stripe::Nodes;
+pub use table::{put_at, record_at};
 
 // The records of a stripe of n nodes and m clients: the first n of the nodes, the first m of the clients. The tables are beside it.
 #[derive(Clone, Copy)]
@@ -36,8 +38,9 @@ impl Stripe {
     pub fn fresh() -> Self
         ensures { Fresh result }
     {
-        let nodes = nodes::fresh();
-        let clients = Clients::fresh();
-        Stripe { nodes, clients }
+        Stripe {
+            nodes: nodes::fresh(),
+            clients: Clients::fresh(),
+        }
     }
 }

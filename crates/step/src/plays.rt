@@ -33,15 +33,10 @@ fn put(z: Sizes, call: StepCall, j: usize, stripe: Stripe, r: Stepped) -> Stripe
     ensures nodes { nodes_of z.n result.nodes ≡ applied r.change (set_at (nodes_of z.n stripe.nodes) j (node_of r.node)) }
     ensures clients { clients_of z.m result.clients ≡ set_at (clients_of z.m stripe.clients) (caller call) (client_of r.client) }
 {
-    let node = r.node;
-    let client = r.client;
-    let change = r.change;
-    let old = stripe.nodes;
-    let half = nodes::set(old, z.n, j, node);
-    let nodes = half.change(z.n, change);
-    let all = stripe.clients;
-    let clients = all.set(z.m, call.caller(), client);
-    Stripe { nodes, clients }
+    Stripe {
+        nodes: nodes::set(stripe.nodes, z.n, j, r.node).change(z.n, r.change),
+        clients: stripe.clients.set(z.m, call.caller(), r.client),
+    }
 }
 
 // A call that is neither a read nor a pick.
@@ -58,12 +53,10 @@ fn play_step(
     ensures { Plays z (Call.Step call) value.now (stored stripe blocks.old spare.now differences.old)
         result.answer (stored result.stripe blocks.new spare.now differences.new) }
 {
-    let nodes = stripe.nodes;
-    let clients = stripe.clients;
-    let client = clients.get(z.m, call.caller());
+    let client = stripe.clients.get(z.m, call.caller());
     let j = call.target(z, client);
-    let node = nodes::get(nodes, z.n, j);
-    let seen = see(z, call, nodes);
+    let node = nodes::get(stripe.nodes, z.n, j);
+    let seen = see(z, call, stripe.nodes);
     let r = step(
         z,
         call,
@@ -79,10 +72,9 @@ fn play_step(
     if answer.is_unchanged() {
         return Played { answer, stripe };
     }
-    let after = put(z, call, j, stripe, r);
     Played {
-        answer: answer,
-        stripe: after,
+        answer,
+        stripe: put(z, call, j, stripe, r),
     }
 }
 
@@ -92,13 +84,10 @@ fn put_picked(z: Sizes, c: u8, stripe: Stripe, r: Picked) -> Stripe
     ensures nodes { nodes_of z.n result.nodes ≡ applied r.change (nodes_of z.n stripe.nodes) }
     ensures clients { clients_of z.m result.clients ≡ set_at (clients_of z.m stripe.clients) c (client_of r.client) }
 {
-    let client = r.client;
-    let change = r.change;
-    let old = stripe.nodes;
-    let nodes = old.change(z.n, change);
-    let all = stripe.clients;
-    let clients = all.set(z.m, c, client);
-    Stripe { nodes, clients }
+    Stripe {
+        nodes: stripe.nodes.change(z.n, r.change),
+        clients: stripe.clients.set(z.m, c, r.client),
+    }
 }
 
 fn pick(z: Sizes, c: u8, stripe: Stripe, blocks: &[u8], spare: &mut [u8]) -> Played
@@ -107,21 +96,17 @@ fn pick(z: Sizes, c: u8, stripe: Stripe, blocks: &[u8], spare: &mut [u8]) -> Pla
         Plays z (Call.Pick c) value (stored stripe blocks.now spare.old differences)
         result.answer (stored result.stripe blocks.now spare.new differences) }
 {
-    let nodes = stripe.nodes;
-    let clients = stripe.clients;
-    let client = clients.get(z.m, c);
-    let r = picking::pick(z, c, nodes, client, blocks, spare);
-    let told = r.answer;
-    if told.is_unchanged() {
+    let client = stripe.clients.get(z.m, c);
+    let r = picking::pick(z, c, stripe.nodes, client, blocks, spare);
+    if r.answer.is_unchanged() {
         return Played {
-            answer: told,
-            stripe: stripe,
+            answer: r.answer,
+            stripe,
         };
     }
-    let after = put_picked(z, c, stripe, r);
     Played {
-        answer: told,
-        stripe: after,
+        answer: r.answer,
+        stripe: put_picked(z, c, stripe, r),
     }
 }
 
@@ -141,13 +126,13 @@ pub fn play(
     if !z.within() {
         return Played {
             answer: Answer::Refused(Refusal::OutOfLimits),
-            stripe: stripe,
+            stripe,
         };
     }
     match call {
         Call::Read(i) => Played {
             answer: read_answer(z, i, stripe, blocks.len(), spare.len()),
-            stripe: stripe,
+            stripe,
         },
         Call::Pick(c) => pick(z, c, stripe, blocks, spare),
         Call::Step(call) => play_step(z, call, value, stripe, blocks, spare, differences),

@@ -32,20 +32,11 @@ pub fn read_answer(z: Sizes, i: u8, stripe: Stripe, blocks: usize, spare: usize)
     if !z.within() {
         return Answer::Refused(Refusal::OutOfLimits);
     }
-    let nodes = stripe.nodes;
-    let clients = stripe.clients;
-    let node = nodes::get(nodes, z.n, i as usize);
+    let node = nodes::get(stripe.nodes, z.n, i as usize);
     let c = node.holder_number();
-    let client = clients.get(z.m, c);
-    let seen = see(z, c, client, nodes);
+    let client = stripe.clients.get(z.m, c);
+    let seen = see(z, c, client, stripe.nodes);
     reading::read(z, i, seen, node, client, blocks, spare)
-}
-
-// The block that an answer names.
-fn part_of<'a>(answer: Answer, z: Sizes, i: u8, blocks: &'a [u8], spare: &'a [u8]) -> &'a [u8]
-    ensures { result.now ≡ shown_part answer z.b i blocks.now spare.now }
-{
-    shown_part(answer, z.b, i as usize, blocks, spare)
 }
 
 // The block of data node i, a part of the blocks or of the spare, and the answer, which tells of which.
@@ -53,6 +44,6 @@ pub fn read<'a>(z: Sizes, i: u8, stripe: Stripe, blocks: &'a [u8], spare: &'a [u
     ensures { Reads z i stripe blocks.now spare.now result.answer result.part.now }
 {
     let answer = read_answer(z, i, stripe, blocks.len(), spare.len());
-    let part = part_of(answer, z, i, blocks, spare);
+    let part = shown_part(answer, z.b, i as usize, blocks, spare);
     Reading { part, answer }
 }

@@ -12,19 +12,15 @@ use rebuild::Stepped;
 use records::{ClientCall, ClientRecord, NodeCall, NodeRecord, Sizes};
 use stripe::{Change, Seen};
 
-// What a call at one node hands back: no other node changes.
+// What a call at one node hands back: no other node changes. No impl of From: both types are of other crates.
 fn kept(r: AtNode) -> Stepped
     ensures { result ≡ record { answer = r.answer; node = r.node; client = r.client; change = keep } }
 {
-    let answer = r.answer;
-    let node = r.node;
-    let client = r.client;
-    let change = Change::keep();
     Stepped {
-        answer: answer,
-        node: node,
-        client: client,
-        change: change,
+        answer: r.answer,
+        node: r.node,
+        client: r.client,
+        change: Change::keep(),
     }
 }
 
@@ -32,12 +28,10 @@ fn kept(r: AtNode) -> Stepped
 fn beside(node: NodeRecord, r: OfClient) -> AtNode
     ensures { result ≡ record { answer = r.answer; node = node; client = r.client } }
 {
-    let answer = r.answer;
-    let client = r.client;
     AtNode {
-        answer: answer,
-        node: node,
-        client: client,
+        answer: r.answer,
+        node,
+        client: r.client,
     }
 }
 
@@ -45,12 +39,10 @@ fn beside(node: NodeRecord, r: OfClient) -> AtNode
 fn failed(client: ClientRecord, r: OfNode) -> AtNode
     ensures { result ≡ record { answer = r.answer; node = r.node; client = client } }
 {
-    let answer = r.answer;
-    let node = r.node;
     AtNode {
-        answer: answer,
-        node: node,
-        client: client,
+        answer: r.answer,
+        node: r.node,
+        client,
     }
 }
 
@@ -59,9 +51,9 @@ fn asked(node: NodeRecord, client: ClientRecord, answer: Answer) -> AtNode
     ensures { result ≡ record { answer = answer; node = node; client = client } }
 {
     AtNode {
-        answer: answer,
-        node: node,
-        client: client,
+        answer,
+        node,
+        client,
     }
 }
 
@@ -69,13 +61,11 @@ fn asked(node: NodeRecord, client: ClientRecord, answer: Answer) -> AtNode
 fn ticked(node: NodeRecord, client: ClientRecord, r: Ticked) -> Stepped
     ensures { result ≡ record { answer = r.answer; node = node; client = client; change = r.change } }
 {
-    let answer = r.answer;
-    let change = r.change;
     Stepped {
-        answer: answer,
-        node: node,
-        client: client,
-        change: change,
+        answer: r.answer,
+        node,
+        client,
+        change: r.change,
     }
 }
 

@@ -5,5 +5,5 @@ use Rattle.step.proofs.Stripe.fresh.Goals as goal
 
 pub returns : goal.returns
 returns c = record {
-  is = λ z spare differences h. rw (c.fresh-nodes.ensures z.n (nodes-few z h), c.fresh-clients.ensures z.m (clients-few z h));
+  is = λ z spare differences h. rw (c.fresh.ensures z.n (nodes-few z h), c.fresh-2.ensures z.m (clients-few z h));
 }

@@ -3,4 +3,4 @@ use Rattle.step.proofs.Records.{nodes-fresh}
 use Rattle.step.proofs.nodes.fresh.Goals as goal
 
 pub returns : goal.returns
-returns c = nodes-fresh c.fresh-node.result c.fresh-node.ensures
+returns c = nodes-fresh c.fresh.result c.fresh.ensures

@@ -14,11 +14,11 @@ returns-then-is_unchanged c value differences = let a = c.args in
     (sym c.is_unchanged.ensures ∙ c.if-is_unchanged.true) a.c
     (picks a.z a.c a.stripe a.blocks.now a.spare.now differences _ c.get-client.result c.pick-r.result c.get-client.ensures c.pick-r.ensures)
 
-pub put_picked-after-requires : goal.put_picked-after-requires
-put_picked-after-requires c = (nodes-few _ c.requires, clients-few _ c.requires)
+pub put_picked-requires : goal.put_picked-requires
+put_picked-requires c = (nodes-few _ c.requires, clients-few _ c.requires)
 
 pub returns : goal.returns
 returns c value differences = let a = c.args in
     pick_put a.z value a.stripe a.blocks.now a.spare.now differences c.pick-r.result.answer _
-    (sym c.is_unchanged.ensures ∙ c.if-is_unchanged.false) c.put_picked-after.result c.put_picked-after.ensures.nodes c.put_picked-after.ensures.clients a.c
+    (sym c.is_unchanged.ensures ∙ c.if-is_unchanged.false) c.put_picked.result c.put_picked.ensures.nodes c.put_picked.ensures.clients a.c
     (picks a.z a.c a.stripe a.blocks.now a.spare.now differences _ c.get-client.result c.pick-r.result c.get-client.ensures c.pick-r.ensures)

@@ -37,13 +37,13 @@ returns-then-is_unchanged c = let a = c.args in
     steps-same a.z a.value.now a.stripe a.blocks.now a.spare.now a.differences.now c.step-r.result.answer _
     (sym c.is_unchanged.ensures ∙ c.if-is_unchanged.true) a.call met.said
 
-pub put-after-requires : goal.put-after-requires
-put-after-requires c = (nodes-few _ c.requires, clients-few _ c.requires)
+pub put-requires : goal.put-requires
+put-requires c = (nodes-few _ c.requires, clients-few _ c.requires)
 
 pub returns : goal.returns
 returns c = let a = c.args in
     let r = c.step-r.result in
     let met = c.step-r.ensures (nodes_of a.z.n a.stripe.nodes) (clients_of a.z.m a.stripe.clients) (handed (goal.at.returns c).After-see-seen) in
-    let nodes = c.put-after.ensures.nodes ∙ ap (λ j. applied r.change (set_at (nodes_of a.z.n a.stripe.nodes) j (node_of r.node))) c.target-j.ensures in
+    let nodes = c.put.ensures.nodes ∙ ap (λ j. applied r.change (set_at (nodes_of a.z.n a.stripe.nodes) j (node_of r.node))) c.target-j.ensures in
     steps-put a.z a.value.now a.stripe a.blocks.now a.spare.now a.differences.now r.answer _
-    (sym c.is_unchanged.ensures ∙ c.if-is_unchanged.false) c.put-after.result nodes c.put-after.ensures.clients a.call met.said
+    (sym c.is_unchanged.ensures ∙ c.if-is_unchanged.false) c.put.result nodes c.put.ensures.clients a.call met.said

@@ -2,4 +2,4 @@
 use Rattle.step.proofs.plays.put_picked.Goals as goal
 
 pub returns : goal.returns
-returns c = record { nodes = c.change-nodes.ensures; clients = c.set-clients.ensures }
+returns c = record { nodes = c.change.ensures; clients = c.set.ensures }

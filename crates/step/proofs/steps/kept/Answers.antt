@@ -2,4 +2,4 @@
 use Rattle.step.proofs.steps.kept.Goals as goal
 
 pub returns : goal.returns
-returns c = rw c.keep-change.ensures
+returns c = rw c.keep.ensures

@@ -3,4 +3,4 @@ use Rattle.step.proofs.Records.{clients-fresh}
 use Rattle.step.proofs.clients.Clients.fresh.Goals as goal
 
 pub returns : goal.returns
-returns c = clients-fresh c.fresh-client.result c.fresh-client.ensures
+returns c = clients-fresh c.fresh.result c.fresh.ensures

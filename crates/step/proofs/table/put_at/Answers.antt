@@ -1,7 +1,7 @@
 -- A record of the table, and one past it.
 use Rattle.std.proofs.Common.{arith}
-use Rattle.shelf.proofs.Lists.{set-in, set-past}
-use Rattle.shelf.proofs.table.put_at.Goals as goal
+use Rattle.step.proofs.Items.{set-in, set-past}
+use Rattle.step.proofs.table.put_at.Goals as goal
 
 pub returns-then-j-table : goal.returns-then-j-table
 returns-then-j-table g c = set-in c.args.table.now c.args.j c.args.item (omega arith)
