@@ -1,7 +1,7 @@
 -- The lengths of a volume's tables are far below what a number holds. Assumes nothing.
 use mathlib.Core.Bool.{Bool, true, false, cond, not, ◌&&◌}
 use mathlib.Core.Path.{◌≡◌, sym, ◌∙◌}
-use Prim.Native.Nat.{ℕ, ◌+◌, ◌*◌, ◌≤◌, ◌<◌}
+use Prim.Native.Nat.{ℕ, ◌*◌, ◌≤◌}
 use native.Mathlib.Nat.{mul-le-mul}
 use native.Mathlib.Omega.{arith}
 use lib.Dec.{leb}
@@ -14,10 +14,6 @@ use Rattle.records.specs.Sizes.{block_limit, client_limit, node_limit, sizes_wit
 use Rattle.volume.specs.Volume.{stripe_limit}
 use Rattle.tables.specs.declared.Volume.{Volume}
 use Rattle.tables.specs.Parts.{part_most, table_blocks, table_differences, volume_within}
-
--- the end of a stripe's part
-pub part_end : (s each : ℕ) → s < stripe_limit → each ≤ part_most → s * each + each ≤ stripe_limit * part_most
-part_end s each h few = omega (arith, mul-le-mul h few)
 
 -- a stripe's blocks, and its clients' differences
 bytes-few : (most n b : ℕ) → cond (leb n most && leb b block_limit) (n * b) 0 ≤ most * block_limit

@@ -283,9 +283,6 @@ module _ (q : Request) (value : List ℕ) (t₀ : Lent) where
   each-is (Step (At op c j)) = refl
   each-is (Step (By op c)) = refl
 
-  stop-each : (c : VolumeCall) → is_of_each_call c ≡ false → is_stop_call c ≡ false
-  stop-each c e = (or-none (is_failure_call c) (is_stop_call c) e).1
-
   module _ (F : Fits q value t₀) where
     -- a failure is refused with 1 in no stripe
     fail-noone : (card : ℕ) → q.call ≡ Step (Fail card) → (r : ℕ) → r < v.stripes → refused_with 1 (step_at r) ≡ false

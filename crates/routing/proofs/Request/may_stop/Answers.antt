@@ -1,5 +1,5 @@
 -- Each record passes. Assumes nothing.
-use Rattle.std.proofs.Common.{rules, tests, true, ◌≡◌, sym, ap, ◌∙◌}
+use Rattle.std.proofs.Common.{rules, tests, ◌≡◌, ◌∙◌}
 use Rattle.std.specs.List.{enumerate_from, list_all}
 use Rattle.std.proofs.lemmas.Iterator.{YieldsList-from_slice}
 use Rattle.std.proofs.lemmas.Iterator.Consumers.{YieldsList-from_enumerate}
