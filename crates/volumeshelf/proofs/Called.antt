@@ -17,11 +17,11 @@ use Rattle.std.proofs.lemmas.List.FromFn.{get_or-enumerate_from, length-enumerat
 use native.Mathlib.Nat.{zero-add}
 use Rattle.basics.specs.Lists.{element_at, list_of, some_of}
 use Rattle.basics.proofs.Lists.{element-past, get_or-list_of, length-list_of, none-at, some_at}
-use Rattle.basics.proofs.Tests.{and_both, bool_cases, clash, is_false, is_true, not-no, or-none, or-one}
+use Rattle.basics.proofs.Tests.{and_both, bool_cases, clash, is_false, is_true, not-no, or-one}
 use Rattle.blocks.specs.Blocks.{block}
 use Rattle.blocks.proofs.Parts.{part_length}
 use Rattle.calls.specs.declared.Answer.{Answer}
-use Rattle.calls.specs.declared.Answer.TheVariants.{Accepted, Refused}
+use Rattle.calls.specs.declared.Answer.TheVariants.{Refused}
 use Rattle.calls.specs.declared.StepCall.{StepCall}
 use Rattle.calls.specs.declared.StepCall.TheVariants.{Swap, Fail, Due, Tick, At, By}
 use Rattle.calls.specs.Answers.{Left, answer_of, is_unchanged}
@@ -35,7 +35,6 @@ use Rattle.machine.specs.Stripe.{Outcome, Stripe, answered, guard, nodes_fit, nu
 use Rattle.records.specs.declared.ClientCall.{ClientCall}
 use Rattle.records.specs.declared.ClientCall.TheVariants.{Drop, Sweep, Stop, Lock, Weaken, Tighten, Write, Settle, Unlock, Quit}
 use Rattle.records.specs.declared.ClientRecord.{ClientRecord}
-use Rattle.records.specs.declared.NodeRecord.{NodeRecord}
 use Rattle.records.specs.declared.Refusal.{Refusal}
 use Rattle.records.specs.declared.Refusal.TheVariants.{OutOfLimits, OutOfRange}
 use Rattle.records.specs.Client.{client_within}
@@ -52,7 +51,6 @@ use Rattle.routing.specs.declared.Request.{Request}
 use Rattle.tables.specs.declared.Volume.{Volume}
 use Rattle.routing.specs.declared.VolumeCall.{VolumeCall}
 use Rattle.routing.specs.declared.VolumeCall.TheVariants.{Pick, Step}
-use Rattle.tables.specs.Parts.{volume_within}
 use Rattle.volumeshelf.specs.Volumes.{CallsVolume, call_of, calling, volume_in}
 use Rattle.routing.specs.Walks.{client_passes, is_failure_call, is_of_each_call, is_place_of, is_stop_call, may_stop, node_passes, stopping_of, tested, walk_fits}
 use Rattle.volumeshelf.specs.Entry.{Makes, Turns}

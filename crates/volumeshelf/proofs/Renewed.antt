@@ -1,9 +1,8 @@
 -- What is said of tables that are made fresh, said of the volume. Assumes nothing.
-use mathlib.Core.Bool.{Bool, true, false, cond, ◌&&◌}
+use mathlib.Core.Bool.{Bool, true, false, cond}
 use mathlib.Core.List.{List, map}
 use mathlib.Core.Path.{◌≡◌, refl, ap, ◌∙◌, subst}
 use Prim.Native.Nat.{ℕ, ◌*◌}
-use lib.Dec.{eqb}
 use lib.ListN.{length, replicate}
 use borrow.Author.Tests.{eqb-true}
 use Rattle.std.specs.Prelude.{Err, Ok, Result}
@@ -18,7 +17,6 @@ use Rattle.records.specs.Client.{fresh_client}
 use Rattle.records.specs.Node.{fresh_node}
 use Rattle.records.specs.View.{client_of, node_of}
 use Rattle.tables.specs.declared.Volume.{Volume}
-use Rattle.tables.specs.Parts.{volume_within}
 use Rattle.tables.specs.Renewals.{Renews, fresh_fits}
 use Rattle.volumeshelf.specs.Volumes.{FreshVolume, Renewed}
 
