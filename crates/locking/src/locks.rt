@@ -28,12 +28,11 @@ fn lock_node(
 {
     let old = node.lmode;
     let step = node.lock(c);
-    let answer = step.answer;
-    match answer {
+    match step.answer {
         Ok(()) => Stepped::answered(Answer::Accepted, step.node, client.lock(old, z.n)),
         Err(why) => Stepped {
             answer: Answer::Refused(why),
-            node: node,
+            node,
             client: client.end_rebuild(),
             change: Change::restore(x, c, expired),
         },
@@ -44,8 +43,7 @@ fn lock_in(z: Sizes, c: u8, seen: Seen, node: NodeRecord, client: ClientRecord) 
     requires { Admitted z c seen client }
     ensures { Steps Rebuild.lock z c seen node client result }
 {
-    let phase = client.phase;
-    match phase {
+    match client.phase {
         Phase::NoRebuild => lock_node(z, c, seen, node, client, 0, NodeSet::none()),
         Phase::Locking(x, expired) => lock_node(z, c, seen, node, client, x, expired),
         _ => Stepped::refused(node, client, Refusal::OutOfPhase),
@@ -66,8 +64,7 @@ fn tighten_in(z: Sizes, c: u8, seen: Seen, node: NodeRecord, client: ClientRecor
     requires { Admitted z c seen client }
     ensures { Steps Rebuild.tighten z c seen node client result }
 {
-    let phase = client.phase;
-    match phase {
+    match client.phase {
         Phase::Picking(j) => {
             if j == 0 {
                 Stepped::refused(node, client, Refusal::OutOfPhase)
@@ -93,8 +90,7 @@ fn unlock_in(z: Sizes, c: u8, seen: Seen, node: NodeRecord, client: ClientRecord
     requires { Admitted z c seen client }
     ensures { Steps Rebuild.unlock z c seen node client result }
 {
-    let phase = client.phase;
-    match phase {
+    match client.phase {
         Phase::Unlocking(_) => go_on(z, c, seen, node, client, node.unlock(c)),
         _ => Stepped::refused(node, client, Refusal::OutOfPhase),
     }

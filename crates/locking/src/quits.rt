@@ -18,7 +18,7 @@ pub fn quit(z: Sizes, c: u8, seen: Seen, node: NodeRecord, client: ClientRecord)
             if client.has_rebuild() {
                 Stepped {
                     answer: Answer::Accepted,
-                    node: node,
+                    node,
                     client: client.end_rebuild(),
                     change: Change::expire(c),
                 }

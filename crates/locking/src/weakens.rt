@@ -21,7 +21,7 @@ fn weaken_now(z: Sizes, c: u8, seen: Seen, node: NodeRecord, client: ClientRecor
     if seen.held {
         Stepped {
             answer: Answer::Accepted,
-            node: node,
+            node,
             client: client.weaken(z.k),
             change: Change::weaken(z.k as u8, c),
         }

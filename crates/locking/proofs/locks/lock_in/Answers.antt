@@ -12,10 +12,6 @@ use Rattle.rebuild.proofs.Phases.{locking, others, out-of-phase}
 use Rattle.rebuild.proofs.Stepping.{steps-refused, steps-as, steps-past}
 use Rattle.locking.proofs.locks.lock_in.Goals as goal
 
-pub enum_told-1 : goal.enum_told-1
-unfolding lock guard others
-enum_told-1 c = search rules
-
 pub none-requires : goal.none-requires
 unfolding lock guard others
 none-requires c = search rules
@@ -24,10 +20,6 @@ pub lock_node-requires : goal.lock_node-requires
 unfolding list_of
 lock_node-requires c = let known = sizes-known _ c.requires.sizes in
     (known.nodes_most, (known.nodes_least, (rw c.in-NoRebuild.is, rw c.in-NoRebuild.is)))
-
-pub enum_known-phase : goal.enum_known-phase
-unfolding lock guard others
-enum_known-phase c = search rules
 
 pub lock_node-requires-in-Locking : goal.lock_node-requires-in-Locking
 lock_node-requires-in-Locking c = let p = c.in-Locking.is in
