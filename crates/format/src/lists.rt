@@ -1,102 +1,58 @@
 // Sets of nodes, write ids and entries as texts. An empty set or list is `-`.
-ghost use Rattle.std.specs.Prelude.{◌≤◌};
-
 use code::NodeSet;
 use entries::{Entries, Entry, Ids, WriteId};
+use std::cmp::min;
+use std::fmt;
+use std::fmt::Display;
 use std::io::{Result, Write};
-use streams::output::{put, put_between, put_number, put_number_and};
+use streams::output::put_list;
 
-fn least(a: usize, b: usize) -> usize
-    ensures { result ≤ b }
-{
-    if a < b { a } else { b }
-}
+// A write's id: `client.position.number`.
+#[derive(Clone, Copy)]
+pub struct Id(pub WriteId);
 
-fn put_member<W: Write>(to: &mut W, out: &mut [u8], at: usize, i: usize, j: u8) -> Result<usize> {
-    let next = put_between(to, out, at, i, b'.')?;
-    put_number(to, out, next, j as u64)
+impl Display for Id {
+    fn fmt<W: fmt::Write>(&self, f: &mut fmt::Formatter<W>) -> fmt::Result {
+        let id = self.0;
+        write!(f, "{}.{}.{}", id.client, id.position, id.number.0)
+    }
 }
 
 // The members in rising order, joined by `.`.
-pub fn put_set<W: Write>(to: &mut W, out: &mut [u8], mut at: usize, set: NodeSet) -> Result<usize> {
-    let size = set.size();
-    if size == 0 {
-        return put(to, out, at, b'-');
-    }
+pub fn put_set<W: Write>(out: &mut W, set: NodeSet) -> Result<()> {
     let members = set.members();
-    for i in 0..size {
-        at = put_member(to, out, at, i, members[i])?;
-    }
-    Ok(at)
-}
-
-// `client.position.number`.
-pub fn put_id<W: Write>(to: &mut W, out: &mut [u8], mut at: usize, id: WriteId) -> Result<usize> {
-    at = put_number_and(to, out, at, id.client as u64, b'.')?;
-    at = put_number_and(to, out, at, id.position as u64, b'.')?;
-    put_number(to, out, at, id.number.0 as u64)
-}
-
-fn put_listed_id<W: Write>(
-    to: &mut W,
-    out: &mut [u8],
-    at: usize,
-    i: usize,
-    id: WriteId,
-) -> Result<usize> {
-    let next = put_between(to, out, at, i, b';')?;
-    put_id(to, out, next, id)
+    put_list(
+        out,
+        &members[..set.size()],
+        ".",
+        |out, j| write!(out, "{j}"),
+    )
 }
 
 // The ids joined by `;`.
-pub fn put_ids<W: Write>(to: &mut W, out: &mut [u8], mut at: usize, ids: Ids) -> Result<usize> {
-    let count = least(ids.count, Ids::LIMIT);
-    if count == 0 {
-        return put(to, out, at, b'-');
-    }
-    for i in 0..count {
-        let id = ids.items[i];
-        at = put_listed_id(to, out, at, i, id)?;
-    }
-    Ok(at)
+pub fn put_ids<W: Write>(out: &mut W, ids: Ids) -> Result<()> {
+    let count = min(ids.count, Ids::LIMIT);
+    put_list(
+        out,
+        &ids.items[..count],
+        ";",
+        |out, id| write!(out, "{}", Id(*id)),
+    )
 }
 
 // The id, `R` for recent or `O` for old, and the age, joined by `.`.
-fn put_entry<W: Write>(to: &mut W, out: &mut [u8], mut at: usize, entry: Entry) -> Result<usize> {
-    let id = entry.id();
-    let mark = if entry.is_recent() { b'R' } else { b'O' };
-    at = put_id(to, out, at, id)?;
-    at = put(to, out, at, b'.')?;
-    at = put(to, out, at, mark)?;
-    at = put(to, out, at, b'.')?;
-    put_number(to, out, at, entry.age.0 as u64)
-}
-
-fn put_listed_entry<W: Write>(
-    to: &mut W,
-    out: &mut [u8],
-    at: usize,
-    i: usize,
-    entry: Entry,
-) -> Result<usize> {
-    let next = put_between(to, out, at, i, b';')?;
-    put_entry(to, out, next, entry)
+fn put_entry<W: Write>(out: &mut W, entry: Entry) -> Result<()> {
+    let mark = if entry.is_recent() { 'R' } else { 'O' };
+    write!(out, "{}.{mark}.{}", Id(entry.id()), entry.age.0)
 }
 
 // The entries in order of arrival, joined by `;`.
-pub fn put_entries<W: Write>(
-    to: &mut W,
-    out: &mut [u8],
-    mut at: usize,
-    entries: Entries,
-) -> Result<usize> {
-    let count = least(entries.count, Entries::LIMIT);
-    if count == 0 {
-        return put(to, out, at, b'-');
-    }
-    for i in 0..count {
-        let entry = entries.items[i];
-        at = put_listed_entry(to, out, at, i, entry)?;
-    }
-    Ok(at)
+pub fn put_entries<W: Write>(out: &mut W, entries: Entries) -> Result<()> {
+    let count = min(entries.count, Entries::LIMIT);
+    put_list(
+        out,
+        &entries.items[..count],
+        ";",
+        |out, entry| put_entry(out, *entry),
+    )
 }

@@ -3,6 +3,7 @@ use mathlib.Core.Path.{◌≡◌, refl, sym, ap, ◌∙◌}
 use mathlib.Core.Bool.{Bool, true, false, cond}
 use mathlib.Core.List.{List, [], ◌∷◌, ◌++◌, append_assoc}
 use mathlib.Core.Option.{Option, none, some, map}
+use mathlib.Core.Logic.{◌⊎◌, inl, inr}
 use Prim.Native.Nat.{ℕ, zero, suc, ◌+◌, ◌-◌, ◌*◌, ◌≤◌, ◌<◌}
 use native.Mathlib.Omega.{arith}
 use lib.Dec.{eqb, leb}
@@ -176,3 +177,8 @@ module _ (room letter : ℕ) where
   unfolding after_second
   no_second first [] = refl
   no_second first (p ∷ ps) = rw cond_same (last_none ps)
+
+-- by the first variant of an arm, or by a later one
+pub either : {A B X : Type 0} → A ⊎ B → (A → X) → (B → X) → X
+either (inl a) f g = f a
+either (inr b) f g = g b

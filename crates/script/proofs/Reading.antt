@@ -8,6 +8,7 @@ use borrow.Author.Tests.{ne_eqb}
 use Rattle.basics.proofs.Tests.{cond_ind}
 use Rattle.script.specs.Lines.{onto, parts, fields}
 use Rattle.script.specs.Reading.{goes_on, HasRead, Takes, Follows, Ends, Finishes}
+use Rattle.std.specs.declared.option.Option.{Option as Maybe}
 use Rattle.script.specs.declared.reader.Line.{Line}
 use Rattle.script.specs.declared.reader.LineReader.{LineReader}
 
@@ -46,6 +47,6 @@ takes {byte = byte} f =
     record { room = f.room; holds = λ l h rest. f.tells rest ∙ h (byte ∷ rest) ∙ rw (f.room, append_assoc l (byte ∷ []) rest) }
 
 -- at the line's end nothing follows
-pub ends : {reader : LineReader} {line : Line} → Finishes reader line → Ends reader line
+pub ends : {reader : LineReader} {line : Maybe Line} → Finishes reader line → Ends reader line
 unfolding HasRead parts
 ends f = record { tells = λ l value h. f.tells value ∙ h [] ∙ rw append-nil }

@@ -8,6 +8,7 @@ use lib.ListN.{length, take, get_or, set, length-set, length-append}
 use lib.Seq.{length-take-le, take-suc, take-suc-set}
 use Rattle.script.specs.Lines.{decimal, word, spaced}
 use Rattle.script.specs.Writing.{Put}
+use Rattle.std.specs.Prelude.{None, Some, Option as Maybe}
 use Rattle.script.specs.declared.writer.Event.{Event}
 use Rattle.script.specs.declared.writer.Event.TheVariants as Events
 use Rattle.script.proofs.Decimal.{decimal-length}
@@ -40,12 +41,12 @@ put_then {before = before} {at = at} {text = text} {more = more} p q =
     }
 
 -- room enough
-pub event-length : (event : Event) → length (spaced (word event)) ≤ 8
-event-length Events.Swapped = omega arith
-event-length Events.Added = omega arith
-event-length Events.Locked = omega arith
-event-length Events.Rebuilt = omega arith
-event-length Events.None = omega arith
+pub event-length : (event : Maybe Event) → length (spaced (word event)) ≤ 8
+event-length (Some Events.Swapped) = omega arith
+event-length (Some Events.Added) = omega arith
+event-length (Some Events.Locked) = omega arith
+event-length (Some Events.Rebuilt) = omega arith
+event-length None = omega arith
 
 pub number-length : (n : ℕ) → length (spaced (decimal n)) ≤ 21
 number-length n = rw length-append (omega (arith, decimal-length 20 n))

@@ -1,6 +1,6 @@
 -- Document 01, "Due test and runner": the lines of the programs, as lists of bytes in ASCII: what a line of input means, to striperun and to
 -- shelfrun, and what a line of output says. Assumes nothing.
-use Rattle.std.specs.Prelude.{Bool, true, false, cond, ◌&&◌, List, [], ◌∷◌, ◌++◌, ℕ, zero, suc, ◌+◌, ◌-◌, ◌*◌, ◌/◌, ◌%◌, eqb, leb, ltb}
+use Rattle.std.specs.Prelude.{None, Some, Option as Maybe, Bool, true, false, cond, ◌&&◌, List, [], ◌∷◌, ◌++◌, ℕ, zero, suc, ◌+◌, ◌-◌, ◌*◌, ◌/◌, ◌%◌, eqb, leb, ltb}
 use Rattle.std.proofs.Math.Option.{Option, none, some}
 use Rattle.machine.specs.Stripe as Stripe
 use Rattle.machine.specs.Stripe.{Answer, Accepted, Added, Done, Rebuilt, Told, Refused, number}
@@ -12,8 +12,6 @@ use Rattle.records.specs.declared.ClientCall.{ClientCall}
 use Rattle.records.specs.declared.ClientCall.TheVariants.{Drop, Sweep, Stop, Lock, Weaken, Tighten, Write, Settle, Unlock, Quit}
 use Rattle.script.specs.declared.writer.Event.{Event}
 use Rattle.script.specs.declared.writer.Event.TheVariants as Events
-use Rattle.script.specs.declared.writer.Shown.{Shown}
-use Rattle.script.specs.declared.writer.Shown.TheVariants as Showns
 
 -- a byte before the first part
 abbrev pub onto : ℕ → List (List ℕ) → List (List ℕ)
@@ -149,42 +147,42 @@ is_rebuilt Rebuilt = true
 is_rebuilt (Told finding) = false
 is_rebuilt (Refused why) = false
 
-abbrev pub if_accepted : Answer → Event → Event
-if_accepted a event = cond (eqb (number a) 0) event Events.None
+abbrev pub if_accepted : Answer → Maybe Event → Maybe Event
+if_accepted a event = cond (eqb (number a) 0) event None
 
-abbrev pub event_at : NodeCall → Answer → Event
-event_at Add a = if_accepted a Events.Added
-event_at Check a = Events.None
+abbrev pub event_at : NodeCall → Answer → Maybe Event
+event_at Add a = if_accepted a (Some Events.Added)
+event_at Check a = None
 
-abbrev pub event_by : ClientCall → Answer → Event
-event_by Drop a = Events.None
-event_by Sweep a = Events.None
-event_by Stop a = Events.None
-event_by Lock a = if_accepted a Events.Locked
-event_by Weaken a = Events.None
-event_by Tighten a = Events.None
-event_by Write a = Events.None
-event_by Settle a = cond (is_rebuilt a) Events.Rebuilt Events.None
-event_by Unlock a = Events.None
-event_by Quit a = Events.None
+abbrev pub event_by : ClientCall → Answer → Maybe Event
+event_by Drop a = None
+event_by Sweep a = None
+event_by Stop a = None
+event_by Lock a = if_accepted a (Some Events.Locked)
+event_by Weaken a = None
+event_by Tighten a = None
+event_by Write a = None
+event_by Settle a = cond (is_rebuilt a) (Some Events.Rebuilt) None
+event_by Unlock a = None
+event_by Quit a = None
 
-abbrev pub event_of : Call → Answer → Event
-event_of (Read i) a = Events.None
-event_of (Pick c) a = Events.None
-event_of (Swap c i value) a = if_accepted a Events.Swapped
-event_of (Fail j value) a = Events.None
-event_of (Due j) a = Events.None
-event_of Tick a = Events.None
+abbrev pub event_of : Call → Answer → Maybe Event
+event_of (Read i) a = None
+event_of (Pick c) a = None
+event_of (Swap c i value) a = if_accepted a (Some Events.Swapped)
+event_of (Fail j value) a = None
+event_of (Due j) a = None
+event_of Tick a = None
 event_of (At op c j) a = event_at op a
 event_of (By op c) a = event_by op a
 
 -- the words, in ASCII
-abbrev pub word : Event → List ℕ
-word Events.Swapped = 115 ∷ 119 ∷ 97 ∷ 112 ∷ 112 ∷ 101 ∷ 100 ∷ []
-word Events.Added = 97 ∷ 100 ∷ 100 ∷ 101 ∷ 100 ∷ []
-word Events.Locked = 108 ∷ 111 ∷ 99 ∷ 107 ∷ 101 ∷ 100 ∷ []
-word Events.Rebuilt = 114 ∷ 101 ∷ 98 ∷ 117 ∷ 105 ∷ 108 ∷ 116 ∷ []
-word Events.None = 45 ∷ []
+abbrev pub word : Maybe Event → List ℕ
+word (Some Events.Swapped) = 115 ∷ 119 ∷ 97 ∷ 112 ∷ 112 ∷ 101 ∷ 100 ∷ []
+word (Some Events.Added) = 97 ∷ 100 ∷ 100 ∷ 101 ∷ 100 ∷ []
+word (Some Events.Locked) = 108 ∷ 111 ∷ 99 ∷ 107 ∷ 101 ∷ 100 ∷ []
+word (Some Events.Rebuilt) = 114 ∷ 101 ∷ 98 ∷ 117 ∷ 105 ∷ 108 ∷ 116 ∷ []
+word None = 45 ∷ []
 
 -- capitals
 abbrev pub hex_of : ℕ → ℕ
@@ -206,9 +204,9 @@ shown (Told finding) = 45 ∷ []
 shown (Refused why) = 45 ∷ []
 
 -- what is shown of a block of one byte
-abbrev pub shown_text : Shown → List ℕ
-shown_text Showns.Nothing = 45 ∷ []
-shown_text (Showns.Byte b) = hex (b ∷ [])
+abbrev pub shown_text : Maybe ℕ → List ℕ
+shown_text None = 45 ∷ []
+shown_text (Some b) = hex (b ∷ [])
 
 -- the decimal digits of a number of at most so many
 unfoldable pub decimal_in : ℕ → ℕ → List ℕ
@@ -227,5 +225,5 @@ abbrev pub ended : List ℕ → List ℕ
 ended field = field ++ 10 ∷ []
 
 -- "its number from 1, an event or "-", the answer number (0 if accepted), and the byte read or "-""
-abbrev pub printed : ℕ → Event → ℕ → List ℕ → List ℕ
+abbrev pub printed : ℕ → Maybe Event → ℕ → List ℕ → List ℕ
 printed number event answer text = spaced (decimal number) ++ (spaced (word event) ++ (spaced (decimal answer) ++ ended text))

@@ -1,11 +1,10 @@
 -- What a `LineReader` holds of a line that it has read in part, and what its `Line` says of the call. Assumes nothing.
-use Rattle.std.specs.Prelude.{◌≡◌, cond, List, [], ◌∷◌, ◌++◌, ℕ, zero, suc, ◌+◌, ◌-◌, ◌*◌, min, eqb, ltb, length, take}
+use Rattle.std.specs.Prelude.{None, Some, Option as Maybe, ◌≡◌, cond, List, [], ◌∷◌, ◌++◌, ℕ, zero, suc, ◌+◌, ◌-◌, ◌*◌, ◌<◌, min, eqb, length, take}
 use Rattle.std.proofs.Math.Option.{Option, none, some, map}
 use Rattle.machine.specs.Calls.{Call, Read, Pick, Swap, Fail, Due, Tick, At, By}
 use Rattle.calls.specs.Calls.{call_of}
 use Rattle.script.specs.Lines.{onto, fields, is_digit, hex_digit, both, bytes_of, with_one, with_two, with_value, with_three, line_of, call}
 use Rattle.script.specs.declared.reader.Line.{Line}
-use Rattle.script.specs.declared.reader.Line.TheVariants as Lines
 use Rattle.script.specs.declared.reader.Number.{Number}
 use Rattle.script.specs.declared.reader.Number.TheVariants as Numbers
 use Rattle.script.specs.declared.reader.Hex.{Hex}
@@ -48,10 +47,10 @@ clipped room call = map (clip room) call
 abbrev pub kept : ℕ → List ℕ → List ℕ
 kept count value = take count (value ++ 0 ∷ [])
 
--- the call that a Line and the buffer stand for
-abbrev pub call_in : Line → List ℕ → Option Call
-call_in Lines.Unreadable value = none
-call_in (Lines.Play call count) value = some (call_of call (kept count value))
+-- the call that a Line and the buffer stand for; none without a Line
+abbrev pub call_in : Maybe Line → List ℕ → Option Call
+call_in None value = none
+call_in (Some line) value = some (call_of line.call (kept line.count value))
 
 ---- a line read in part: the clipped call that it becomes, by what follows
 
@@ -128,19 +127,21 @@ pub record Follows (reader : LineReader) (value : List ℕ) (byte : ℕ) (next :
   pub tells : (rest : List ℕ) → goes_on next after (fields rest) ≡ goes_on reader value (fields (byte ∷ rest))
 
 -- the line's end
-pub record Ends (reader : LineReader) (line : Line) : Type 0 where
+pub record Ends (reader : LineReader) (line : Maybe Line) : Type 0 where
   pub tells : (l value : List ℕ) → HasRead l reader value → call_in line value ≡ clipped (length value) (call l)
 
 -- the same: nothing follows
-pub record Finishes (reader : LineReader) (line : Line) : Type 0 where
+pub record Finishes (reader : LineReader) (line : Maybe Line) : Type 0 where
   pub tells : (value : List ℕ) → call_in line value ≡ goes_on reader value ([] ∷ [])
 
--- r is the hexadecimal digit x, or 16 if x is none; the byte of two of them, or 256
-abbrev pub HexDigit : ℕ → ℕ → Type 0
-HexDigit x r = hex_digit x ≡ cond (ltb r 16) (some r) none
+-- r is the hexadecimal digit x, which is less than 16, or None if x is none; the byte of two of them
+abbrev pub HexDigit : ℕ → Maybe ℕ → Type 0
+HexDigit x None = hex_digit x ≡ none
+HexDigit x (Some r) = (hex_digit x ≡ some r) × (r < 16)
 
-abbrev pub HexByte : ℕ → ℕ → ℕ → Type 0
-HexByte x y r = (bytes : Option (List ℕ)) → both (hex_digit x) (hex_digit y) bytes ≡ cond (ltb r 256) (map (λ more. r ∷ more) bytes) none
+abbrev pub HexByte : ℕ → ℕ → Maybe ℕ → Type 0
+HexByte x y None = (bytes : Option (List ℕ)) → both (hex_digit x) (hex_digit y) bytes ≡ none
+HexByte x y (Some r) = (bytes : Option (List ℕ)) → both (hex_digit x) (hex_digit y) bytes ≡ map (λ more. r ∷ more) bytes
 
 -- byte after the first count bytes of the value
 pub record Stored (value : List ℕ) (count byte : ℕ) (after : List ℕ) (next : ℕ) : Type 0 where

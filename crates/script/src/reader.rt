@@ -1,6 +1,6 @@
 // A line of input, read byte by byte: the reader keeps what it needs of the bytes so far, and lines may have any length.
 ghost use Rattle.std.proofs.Math.Option.{some};
-ghost use Rattle.std.specs.Prelude.{List, [], ◌∷◌, ◌≡◌, true, ℕ, ◌+◌, ◌-◌, ◌*◌};
+ghost use Rattle.std.specs.Prelude.{List, [], ◌∷◌, ◌≡◌, true, ℕ, ◌+◌, ◌-◌, ◌*◌, Some};
 ghost use Rattle.machine.specs.Calls.{At, By};
 ghost use Rattle.calls.specs.Calls.{call_of};
 ghost use Rattle.script.specs.Lines.{is_digit, is_shelf_line, shelf_line, with_none, with_one, with_two};
@@ -13,9 +13,9 @@ const SPACE: u8 = b' ';
 
 // The call of a line, numbers clipped at 255; beside a swap or a failure the count of the value's bytes, else 0.
 #[derive(Clone, Copy)]
-pub enum Line {
-    Unreadable,
-    Play(Call, usize),
+pub struct Line {
+    pub call: Call,
+    pub count: usize,
 }
 
 // The field of a number, so far. It is clipped at a million, which is more than any number that a program has use for.
@@ -52,21 +52,15 @@ pub enum LineReader {
     Value(Target, Hex, usize),
 }
 
-impl Line {
-    // The line as shelfrun has it, where a call that only striperun knows is unreadable.
-    pub fn in_shelfrun(self) -> Line
-        ensures { (value : List ℕ) → call_in result value ≡ shelf_line (call_in self value) }
-    {
-        match self {
-            Line::Unreadable => Line::Unreadable,
-            Line::Play(call, count) => {
-                if is_shelf_line(call) {
-                    Line::Play(call, count)
-                } else {
-                    Line::Unreadable
-                }
-            }
-        }
+// The line as shelfrun has it, where a call that only striperun knows is unreadable.
+pub fn in_shelfrun(line: Option<Line>) -> Option<Line>
+    ensures { (value : List ℕ) → call_in result value ≡ shelf_line (call_in line value) }
+{
+    let line = line?;
+    if is_shelf_line(line.call) {
+        Some(line)
+    } else {
+        None
     }
 }
 
@@ -74,18 +68,7 @@ impl Line {
 fn is_shelf_line(call: Call) -> bool
     ensures { (value : List ℕ) → result ≡ is_shelf_line (call_of call value) }
 {
-    match call {
-        Call::Read(_) => true,
-        Call::Pick(_) => true,
-        Call::Step(step) => match step {
-            StepCall::Swap(_, _) => true,
-            StepCall::Fail(_) => true,
-            StepCall::Due(_) => false,
-            StepCall::Tick => false,
-            StepCall::At(_, _, _) => true,
-            StepCall::By(_, _) => true,
-        },
-    }
+    !matches!(call, Call::Step(StepCall::Due(_) | StepCall::Tick))
 }
 
 impl LineReader {
@@ -121,65 +104,68 @@ impl LineReader {
         }
     }
 
-    // The line's end.
-    pub fn finish(self) -> Line
+    // The line's end; None if the line is unreadable.
+    pub fn finish(self) -> Option<Line>
         ensures { Finishes self result }
     {
         match self {
-            LineReader::Unreadable => Line::Unreadable,
-            LineReader::Start => Line::Unreadable,
+            LineReader::Unreadable | LineReader::Start => None,
             LineReader::Letter(letter) => with_none(letter),
             LineReader::First(letter, first) => match first {
                 Number::Digits(c) => with_one(letter, narrow(c)),
-                Number::Empty => Line::Unreadable,
-                Number::Bad => Line::Unreadable,
+                Number::Empty | Number::Bad => None,
             },
             LineReader::Second(letter, first, second) => match second {
                 Number::Digits(j) => with_two(letter, first, narrow(j)),
-                Number::Empty => Line::Unreadable,
-                Number::Bad => Line::Unreadable,
+                Number::Empty | Number::Bad => None,
             },
             LineReader::Value(target, hex, count) => match hex {
-                Hex::Whole => with_value(target, count),
-                Hex::Half(_) => Line::Unreadable,
-                Hex::Bad => Line::Unreadable,
+                Hex::Whole => Some(with_value(target, count)),
+                Hex::Half(_) | Hex::Bad => None,
             },
         }
     }
 }
 
-// A client's call that names nothing else, and one at a node.
-fn by(op: ClientCall, c: u8) -> Line
-    ensures { (value : List ℕ) → call_in result value ≡ some (By op c) }
+// A call that is given no bytes.
+fn alone(call: Call) -> Option<Line>
+    ensures { (value : List ℕ) → call_in result value ≡ some (call_of call []) }
 {
-    Line::Play(Call::Step(StepCall::By(op, c)), 0)
+    Some(Line { call, count: 0 })
 }
 
-fn at(op: NodeCall, c: u8, j: u8) -> Line
+// A client's call that names nothing else, and one at a node.
+fn by(op: ClientCall, c: u8) -> Option<Line>
+    ensures { (value : List ℕ) → call_in result value ≡ some (By op c) }
+{
+    alone(Call::Step(StepCall::By(op, c)))
+}
+
+fn at(op: NodeCall, c: u8, j: u8) -> Option<Line>
     ensures { (value : List ℕ) → call_in result value ≡ some (At op c j) }
 {
-    Line::Play(Call::Step(StepCall::At(op, c, j)), 0)
+    alone(Call::Step(StepCall::At(op, c, j)))
 }
 
 // The calls by their letters: of no number, of one, of two, of a value.
-fn with_none(letter: u8) -> Line
+fn with_none(letter: u8) -> Option<Line>
     ensures { (value : List ℕ) → call_in result value ≡ with_none letter }
 {
     match letter {
-        b'K' => Line::Play(Call::Step(StepCall::Tick), 0),
-        _ => Line::Unreadable,
+        b'K' => alone(Call::Step(StepCall::Tick)),
+        _ => None,
     }
 }
 
-fn with_one(letter: u8, c: u8) -> Line
+fn with_one(letter: u8, c: u8) -> Option<Line>
     ensures { (value : List ℕ) → call_in result value ≡ with_one letter (some c) }
 {
     match letter {
         b'D' => by(ClientCall::Drop, c),
         b'G' => by(ClientCall::Sweep, c),
-        b'R' => Line::Play(Call::Read(c), 0),
+        b'R' => alone(Call::Read(c)),
         b'L' => by(ClientCall::Lock, c),
-        b'P' => Line::Play(Call::Pick(c), 0),
+        b'P' => alone(Call::Pick(c)),
         b'O' => by(ClientCall::Weaken, c),
         b'I' => by(ClientCall::Tighten, c),
         b'W' => by(ClientCall::Write, c),
@@ -187,34 +173,38 @@ fn with_one(letter: u8, c: u8) -> Line
         b'U' => by(ClientCall::Unlock, c),
         b'Q' => by(ClientCall::Quit, c),
         b'C' => by(ClientCall::Stop, c),
-        b'Z' => Line::Play(Call::Step(StepCall::Due(c)), 0),
-        _ => Line::Unreadable,
+        b'Z' => alone(Call::Step(StepCall::Due(c))),
+        _ => None,
     }
 }
 
-fn with_two(letter: u8, c: u8, j: u8) -> Line
+fn with_two(letter: u8, c: u8, j: u8) -> Option<Line>
     ensures { (value : List ℕ) → call_in result value ≡ with_two letter (some c) (some j) }
 {
     match letter {
         b'A' => at(NodeCall::Add, c, j),
         b'H' => at(NodeCall::Check, c, j),
-        _ => Line::Unreadable,
+        _ => None,
     }
 }
 
 fn with_value(target: Target, count: usize) -> Line
-    ensures { (value : List ℕ) → call_in result value ≡ with_target target (some (kept count value)) }
+    ensures { (value : List ℕ) → call_in (Some result) value ≡ with_target target (some (kept count value)) }
 {
-    match target {
-        Target::Fail(j) => Line::Play(Call::Step(StepCall::Fail(j)), count),
-        Target::Swap(c, i) => Line::Play(Call::Step(StepCall::Swap(c, i)), count),
+    let step = match target {
+        Target::Fail(j) => StepCall::Fail(j),
+        Target::Swap(c, i) => StepCall::Swap(c, i),
+    };
+    Line {
+        call: Call::Step(step),
+        count,
     }
 }
 
 pub fn is_digit(byte: u8) -> bool
     ensures { result ≡ is_digit byte }
 {
-    byte >= b'0' && byte <= b'9'
+    byte.is_ascii_digit()
 }
 
 // The number with one byte more.
@@ -266,8 +256,7 @@ fn first_step(letter: u8, first: Number, byte: u8) -> LineReader
                 LineReader::Second(letter, narrow(n), Number::Empty)
             }
         }
-        Number::Empty => LineReader::Unreadable,
-        Number::Bad => LineReader::Unreadable,
+        Number::Empty | Number::Bad => LineReader::Unreadable,
     }
 }
 
@@ -285,8 +274,7 @@ fn second_step(letter: u8, first: u8, second: Number, byte: u8) -> LineReader
                 LineReader::Unreadable
             }
         }
-        Number::Empty => LineReader::Unreadable,
-        Number::Bad => LineReader::Unreadable,
+        Number::Empty | Number::Bad => LineReader::Unreadable,
     }
 }
 
@@ -299,44 +287,29 @@ fn value_step(target: Target, hex: Hex, count: usize, byte: u8, value: &mut [u8]
     match hex {
         Hex::Whole => LineReader::Value(target, Hex::Half(byte), count),
         Hex::Bad => LineReader::Value(target, Hex::Bad, count),
-        Hex::Half(first) => {
-            let next = hex_byte(first, byte);
-            if next >= 256 {
-                return LineReader::Value(target, Hex::Bad, count);
-            }
-            let counted = store(value, count, next as u8);
-            LineReader::Value(target, Hex::Whole, counted)
-        }
+        Hex::Half(first) => match hex_byte(first, byte) {
+            Some(next) => LineReader::Value(target, Hex::Whole, store(value, count, next)),
+            None => LineReader::Value(target, Hex::Bad, count),
+        },
     }
 }
 
-// The byte of two hexadecimal digits; 256 if they are none.
-fn hex_byte(first: u8, second: u8) -> u32
+// The byte of two hexadecimal digits.
+fn hex_byte(first: u8, second: u8) -> Option<u8>
     ensures { HexByte first second result }
 {
-    let high = hex_digit(first);
-    let low = hex_digit(second);
-    if high >= 16 {
-        return 256;
-    }
-    if low >= 16 {
-        return 256;
-    }
-    high * 16 + low
+    Some(hex_digit(first)? * 16 + hex_digit(second)?)
 }
 
-// The value of a hexadecimal digit, a capital; of any other byte 16.
-fn hex_digit(byte: u8) -> u32
+// The value of a hexadecimal digit, a capital.
+#[tactic(auto, unfolding(crate::specs::Lines::hex_digit))]
+fn hex_digit(byte: u8) -> Option<u8>
     ensures { HexDigit byte result }
 {
-    if is_digit(byte) {
-        (byte - b'0') as u32
-    } else if byte < b'A' {
-        16
-    } else if byte <= b'F' {
-        (byte - 55) as u32
-    } else {
-        16
+    match byte {
+        b'0'..=b'9' => Some(byte - b'0'),
+        b'A'..=b'F' => Some(byte - b'A' + 10),
+        _ => None,
     }
 }
 

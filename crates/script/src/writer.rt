@@ -11,17 +11,16 @@ pub enum Event {
     Added,
     Locked,
     Rebuilt,
-    None,
-}
-
-#[derive(Clone, Copy)]
-pub enum Shown {
-    Nothing,
-    Byte(u8),
 }
 
 // The line's bytes at the start of out, and how many they are.
-pub fn put_answer(out: &mut [u8], number: u64, event: Event, answer: u8, shown: Shown) -> usize
+pub fn put_answer(
+    out: &mut [u8],
+    number: u64,
+    event: Option<Event>,
+    answer: u8,
+    shown: Option<u8>,
+) -> usize
     requires { 64 ≤ length out.old }
     ensures { Put out.old 0 (printed number event answer (shown_text shown)) out.new result }
 {
@@ -36,12 +35,9 @@ fn put(out: &mut [u8], at: usize, text: &[u8]) -> usize
     requires { at + length text.now ≤ length out.old }
     ensures { Put out.old at text.now out.new result }
 {
-    let mut i = 0;
-    while i < text.len() {
-        out[at + i] = text[i];
-        i += 1;
-    }
-    at + i
+    let end = at + text.len();
+    out[at..end].copy_from_slice(text);
+    end
 }
 
 // A number and a space.
@@ -56,27 +52,27 @@ fn put_number(out: &mut [u8], at: usize, n: u64) -> usize
 }
 
 // An event and a space.
-fn put_event(out: &mut [u8], at: usize, event: Event) -> usize
+fn put_event(out: &mut [u8], at: usize, event: Option<Event>) -> usize
     requires { at + 8 ≤ length out.old }
     ensures { Put out.old at (spaced (word event)) out.new result }
 {
     match event {
-        Event::Swapped => put(out, at, b"swapped "),
-        Event::Added => put(out, at, b"added "),
-        Event::Locked => put(out, at, b"locked "),
-        Event::Rebuilt => put(out, at, b"rebuilt "),
-        Event::None => put(out, at, b"- "),
+        Some(Event::Swapped) => put(out, at, b"swapped "),
+        Some(Event::Added) => put(out, at, b"added "),
+        Some(Event::Locked) => put(out, at, b"locked "),
+        Some(Event::Rebuilt) => put(out, at, b"rebuilt "),
+        None => put(out, at, b"- "),
     }
 }
 
 // What is shown, and the end of the line.
-fn put_shown(out: &mut [u8], at: usize, shown: Shown) -> usize
+fn put_shown(out: &mut [u8], at: usize, shown: Option<u8>) -> usize
     requires { at + 3 ≤ length out.old }
     ensures { Put out.old at (ended (shown_text shown)) out.new result }
 {
     match shown {
-        Shown::Nothing => put(out, at, b"-\n"),
-        Shown::Byte(b) => {
+        None => put(out, at, b"-\n"),
+        Some(b) => {
             let text = [hex(b / 16), hex(b % 16), b'\n'];
             put(out, at, &text)
         }

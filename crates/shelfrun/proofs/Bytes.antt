@@ -15,6 +15,7 @@ use Rattle.machine.specs.Calls.{Call}
 use Rattle.script.specs.Lines.{call, shelf_line, shelf_call, printed, shown}
 use Rattle.script.specs.Reading.{clipped, call_in, HasRead, Takes, Ends}
 use Rattle.script.specs.Writing.{Put}
+use Rattle.std.specs.Prelude.{Option as Known}
 use Rattle.script.specs.declared.reader.Line.{Line}
 use Rattle.script.specs.declared.reader.LineReader.{LineReader}
 use Rattle.script.specs.declared.writer.Event.{Event}
@@ -74,7 +75,7 @@ within-line {byte = byte} other t = record {
 -- the event and the byte shown do not go by what is clipped
 clip-output : (n : ℕ) (x : Option Call) (a : Answer) → output n (clipped 1 x) a ≡ output n x a
 clip-output n none a = refl
-clip-output n (some x) a = ap (λ (event : Event). printed n event (number a) (shown a)) (clip-event 1 x a)
+clip-output n (some x) a = ap (λ (event : Known Event). printed n event (number a) (shown a)) (clip-event 1 x a)
 
 clip-outcome : (x : Option Call) (s : Stripe) → Small sizes s → outcome (clipped 1 x) s ≡ outcome x s
 clip-outcome none s small = refl
@@ -100,7 +101,7 @@ small stripe blocks spare differences = record {
 }
 
 -- the line that a reader tells is the line that was read, as shelfrun has it
-pub line-answered : {x : State} {lines value end : ℕ} {reader : LineReader} {line : Line} {told : Option Call} {s s' : Stripe} {before after : List ℕ}
+pub line-answered : {x : State} {lines value end : ℕ} {reader : LineReader} {line : Known Line} {told : Option Call} {s s' : Stripe} {before after : List ℕ}
     → Small sizes s → Ends reader line → told ≡ shelf_line (call_in line (value ∷ []))
     → Answers (lines + 1) told s before after end s' → Is x lines reader (value ∷ []) s
     → Answers (suc x.lines) (shelf_call x.line) x.stripe before after end s'

@@ -14,6 +14,7 @@ use Rattle.machine.specs.Stripe.{Stripe, Outcome, answered, number}
 use Rattle.machine.specs.Stripe as Machines
 use Rattle.machine.specs.Calls.{step}
 use Rattle.machine.specs.Calls as Machine
+use Rattle.std.specs.Prelude.{Option as Known}
 use Rattle.calls.specs.declared.Answer.{Answer}
 use Rattle.calls.specs.declared.Answer.TheVariants.{Accepted, Shown, Added, Done, Rebuilt, Told, Refused}
 use Rattle.calls.specs.Answers.{answer_of, shown_part, table_of}
@@ -22,8 +23,6 @@ use Rattle.calls.specs.Calls.{call_of}
 use Rattle.script.specs.Lines.{printed, shown, shown_text}
 use Rattle.script.specs.Writing.{Put}
 use Rattle.script.specs.declared.writer.Event.{Event}
-use Rattle.script.specs.declared.writer.Shown as Writer
-use Rattle.script.specs.declared.writer.Shown.TheVariants as Showns
 use Rattle.shelfrun.specs.Shelfrun.{sizes, output}
 use Rattle.shelfrun.specs.Feeding.{Says, Answers, byte_in}
 
@@ -60,15 +59,6 @@ one_byte [] h = absurd (omega arith)
 one_byte (x ∷ []) h = refl
 one_byte (x ∷ y ∷ l) h = absurd (omega arith)
 
--- the byte of a block, or nothing
-pub byte-none : (l : List ℕ) → length l ≡ 0 → Showns.Nothing ≡ byte_in l
-byte-none [] h = refl
-byte-none (x ∷ l) h = absurd (omega arith)
-
-pub byte-first : (l : List ℕ) → (length l ≡ 0 → ⊥) → Showns.Byte (get_or l 0 0) ≡ byte_in l
-byte-first [] h = absurd (h refl)
-byte-first (x ∷ l) h = refl
-
 -- a block of one byte has at most one
 short : (source : Source) (l : List ℕ) → length l ≤ 1 → shown_text (byte_in l) ≡ shown (Machines.Shown source l)
 short source [] h = refl
@@ -93,7 +83,7 @@ one-shown (Told finding) i blocks spare = refl
 one-shown (Refused why) i blocks spare = refl
 
 -- the words of an answer, printed
-pub prints : {before after : List ℕ} {end : ℕ} (n : ℕ) (x : Machine.Call) (a : Machines.Answer) (m : ℕ) {event : Event} {byte : Writer.Shown}
+pub prints : {before after : List ℕ} {end : ℕ} (n : ℕ) (x : Machine.Call) (a : Machines.Answer) (m : ℕ) {event : Known Event} {byte : Known ℕ}
     → Says x a event byte → m ≡ number a → Put before 0 (printed n event m (shown_text byte)) after end → Put before 0 (output n (some x) a) after end
 prints {before = before} {after = after} {end = end} n x a m w e p =
     subst (λ (t : List ℕ). Put before 0 t after end) (λ i. printed n (w.event-of i) (e i) (w.byte_read i)) p

@@ -1,5 +1,5 @@
 -- What the functions of shelfrun say of a State: how it is kept by value, and what lines and bytes print and leave. Assumes nothing.
-use Rattle.std.specs.Prelude.{Bool, ◌≡◌, List, [], ◌∷◌, ℕ, ◌-◌, ◌^◌, ◌<◌, length, Option as Known, IfSome}
+use Rattle.std.specs.Prelude.{Bool, ◌≡◌, List, [], ◌∷◌, ℕ, ◌-◌, ◌^◌, ◌<◌, length, Option as Known, None, Some, IfSome}
 use Rattle.std.specs.Io.KnownBytes.{Appends, Consumes, IsAtEnd}
 use Rattle.std.proofs.Math.Option.{Option, some}
 use Rattle.machine.specs.Stripe as Machine
@@ -9,19 +9,17 @@ use Rattle.script.specs.Reading.{HasRead}
 use Rattle.script.specs.Writing.{Put}
 use Rattle.script.specs.declared.reader.LineReader.{LineReader}
 use Rattle.script.specs.declared.writer.Event.{Event}
-use Rattle.script.specs.declared.writer.Shown.{Shown}
-use Rattle.script.specs.declared.writer.Shown.TheVariants as Showns
 use Rattle.step.specs.View.{stripe_of}
 use Rattle.shelfrun.specs.declared.feeding.Shelf.{Shelf}
 use Rattle.shelfrun.specs.Shelfrun.{State, start, sizes, outcome, output, output_of, left, event_in, read_in, is_begun, shelfrun}
 
 -- what is shown of a block of one byte, or of none
-abbrev pub byte_in : List ℕ → Shown
-byte_in [] = Showns.Nothing
-byte_in (byte ∷ bytes) = Showns.Byte byte
+abbrev pub byte_in : List ℕ → Known ℕ
+byte_in [] = None
+byte_in (byte ∷ bytes) = Some byte
 
 -- the event of a call and its answer, and the byte shown
-pub record Says (x : Call) (a : Machine.Answer) (event : Event) (byte : Shown) : Type 0 where
+pub record Says (x : Call) (a : Machine.Answer) (event : Known Event) (byte : Known ℕ) : Type 0 where
   pub event-of : event ≡ event_in (some x) a
   pub byte_read : shown_text byte ≡ read_in (some x) a
 

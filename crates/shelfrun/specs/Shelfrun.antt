@@ -1,5 +1,5 @@
 -- Document 01, "Due test and runner": the program shelfrun, from its input as a list of bytes to its output. Assumes nothing.
-use Rattle.std.specs.Prelude.{Bool, true, false, cond, List, [], ◌∷◌, ◌++◌, ℕ, suc, eqb, replicate}
+use Rattle.std.specs.Prelude.{Option as Known, None, Bool, true, false, cond, List, [], ◌∷◌, ◌++◌, ℕ, suc, eqb, replicate}
 use Rattle.std.proofs.Math.Option.{Option, none, some}
 use Rattle.records.specs.declared.Sizes.{Sizes}
 use Rattle.records.specs.declared.Refusal.TheVariants.{OutOfLimits}
@@ -7,7 +7,6 @@ use Rattle.machine.specs.Stripe.{Stripe, Outcome, Answer, fresh, number, refused
 use Rattle.machine.specs.Calls.{Call, step}
 use Rattle.script.specs.Lines.{shelf_call, ended, event_of, printed, shown}
 use Rattle.script.specs.declared.writer.Event.{Event}
-use Rattle.script.specs.declared.writer.Event.TheVariants as Events
 
 -- "with k=2, n=4, B=1, t_d=1, m=2"
 abbrev pub sizes : Sizes
@@ -19,8 +18,8 @@ outcome none s = refused OutOfLimits s
 outcome (some x) s = step sizes x s
 
 -- "an event or "-""
-abbrev pub event_in : Option Call → Answer → Event
-event_in none a = Events.None
+abbrev pub event_in : Option Call → Answer → Known Event
+event_in none a = None
 event_in (some x) a = event_of x a
 
 -- "and the byte read or "-"": no other answer shows one

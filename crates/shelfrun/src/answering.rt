@@ -16,7 +16,7 @@ use calls::{Answer, Call};
 use records::Sizes;
 use script::reader::Line;
 use script::writer;
-use script::writer::{Event, Shown};
+use std::cmp::min;
 use step::Stripe;
 
 // The records after a line, and how long its output is.
@@ -41,9 +41,7 @@ fn print<'a>(
         out.new result }
 {
     let w = words::words_of(call, answer, blocks, spare);
-    let event = w.event;
-    let shown = w.shown;
-    writer::put_answer(out, number, event, answer.number(), shown)
+    writer::put_answer(out, number, w.event, answer.number(), w.shown)
 }
 
 // The call on the stripe of shelfrun's sizes, and what is printed of it.
@@ -71,12 +69,10 @@ fn answer_call(
         m: 2,
     };
     let played = step::play(z, call, value, stripe, blocks, spare, differences);
-    let answer = played.answer;
-    let after = played.stripe;
-    let end = print(number, call, answer, blocks, spare, out);
+    let end = print(number, call, played.answer, blocks, spare, out);
     Answered {
-        stripe: after,
-        end: end,
+        stripe: played.stripe,
+        end,
     }
 }
 
@@ -85,17 +81,13 @@ fn counted(value: &[u8], count: usize) -> usize
     ensures prefix_len { IsPrefixLen result value.now }
     ensures value_value { take result value.now ≡ take count value.now }
 {
-    if count < value.len() {
-        count
-    } else {
-        value.len()
-    }
+    min(count, value.len())
 }
 
 // A line is answered, readable or not. A value has one byte; of a longer one it is enough to know that it is longer, and a 0 stands for the rest.
 pub fn answer(
     number: u64,
-    line: Line,
+    line: Option<Line>,
     value: u8,
     stripe: Stripe,
     blocks: &mut [u8],
@@ -110,14 +102,11 @@ pub fn answer(
         (stripe_of sizes result.stripe blocks.new spare.new differences.new) }
 {
     match line {
-        Line::Unreadable => {
-            let end = writer::put_answer(out, number, Event::None, 1, Shown::Nothing);
-            Answered {
-                stripe: stripe,
-                end: end,
-            }
+        None => {
+            let end = writer::put_answer(out, number, None, 1, None);
+            Answered { stripe, end }
         }
-        Line::Play(call, count) => {
+        Some(Line { call, count }) => {
             let bytes = [value, 0];
             let n = counted(&bytes, count);
             answer_call(

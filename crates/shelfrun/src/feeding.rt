@@ -8,7 +8,7 @@ ghost use Rattle.shelfrun.specs.Feeding.{Answers, Feeds, Is, Keeps};
 
 use super::answering;
 use super::answering::Answered;
-use script::reader::LineReader;
+use script::reader::{LineReader, in_shelfrun};
 use step::Stripe;
 
 const LF: u8 = b'\n';
@@ -41,22 +41,9 @@ impl Shelf {
         Shelf {
             lines: 0,
             begun: false,
-            reader: reader,
+            reader,
             value: 0,
-            stripe: stripe,
-        }
-    }
-
-    // What is kept after some bytes.
-    fn kept(lines: u64, begun: bool, reader: LineReader, value: u8, stripe: Stripe) -> Self
-        ensures { result ≡ record { lines = lines; begun = begun; reader = reader; value = value; stripe = stripe } }
-    {
-        Shelf {
-            lines: lines,
-            begun: begun,
-            reader: reader,
-            value: value,
-            stripe: stripe,
+            stripe,
         }
     }
 }
@@ -79,7 +66,7 @@ fn end_line(
         Answers (suc x.lines) (shelf_call x.line) x.stripe out.old out.new result.end
         (stripe_of sizes result.stripe blocks.new spare.new differences.new) }
 {
-    let line = reader.finish().in_shelfrun();
+    let line = in_shelfrun(reader.finish());
     answering::answer(
         lines + 1,
         line,
@@ -140,8 +127,14 @@ pub fn feed(
             begun = true;
         }
     }
-    let after = Shelf::kept(lines, begun, reader, value[0], stripe);
-    Fed { shelf: after, end }
+    let shelf = Shelf {
+        lines,
+        begun,
+        reader,
+        value: value[0],
+        stripe,
+    };
+    Fed { shelf, end }
 }
 
 // The last line, if it has begun: it lacks its end.
@@ -160,13 +153,11 @@ pub fn finish(
     if !shelf.begun {
         return 0;
     }
-    let reader = shelf.reader;
-    let stripe = shelf.stripe;
     let answered = end_line(
         shelf.lines,
-        reader,
+        shelf.reader,
         shelf.value,
-        stripe,
+        shelf.stripe,
         blocks,
         spare,
         differences,

@@ -46,12 +46,10 @@ fn pass<R: Read>(
 {
     let n = from.read(input)?;
     let fed = feeding::feed(shelf, &input[..n], blocks, spare, differences, out);
-    let after = fed.shelf;
-    let end = fed.end;
     Ok(Passed {
         read: n,
-        shelf: after,
-        end: end,
+        shelf: fed.shelf,
+        end: fed.end,
     })
 }
 

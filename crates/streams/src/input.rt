@@ -1,143 +1,76 @@
-// An input by way of a lent buffer: its bytes, its first line, and the lines of a script that cannot be played.
-use super::output::{flush, put_text};
-use super::sizes::SizesReader;
+// Standard input by way of a buffer of fixed size: its bytes, its lines, and the lines of a script that cannot be played.
+ghost use Rattle.std.specs.Prelude.{◌≤◌};
+
 use std::io::{Read, Result, Write};
 
-pub const LF: u8 = b'\n';
+const LF: u8 = b'\n';
+
+const ROOM: usize = 65536;
 
 // A proved loop has to end, and nothing says that the input does: a number of turns that no run uses up.
 pub const TURNS: u64 = u64::MAX;
 
-// The bytes of the buffer that were read and not yet taken: from `at` on, before `end`.
-#[derive(Clone, Copy)]
-pub struct Input {
+// A reader, and the bytes that were read and not yet taken: those of the buffer from `at` on, before `end`.
+#[derive(Drop)]
+pub struct Input<R> {
+    from: R,
+    buffer: [u8; ROOM],
     at: usize,
     end: usize,
+    ghost in_room: { end ≤ 65536 },
 }
 
-#[derive(Clone, Copy)]
-pub enum Next {
-    End,
-    Byte(u8, Input),
-}
-
-// What was read of the first line, and the input after it.
-#[derive(Clone, Copy)]
-pub struct First {
-    pub reader: SizesReader,
-    pub input: Input,
-}
-
-#[derive(Clone, Copy)]
-enum Passed {
-    End,
-    Line(Input),
-}
-
-impl Input {
-    pub fn new() -> Self {
-        Input { at: 0, end: 0 }
+impl<R: Read> Input<R> {
+    pub fn new(from: R) -> Self {
+        Input {
+            from,
+            buffer: [0; ROOM],
+            at: 0,
+            end: 0,
+        }
     }
 
-    pub fn next<R: Read>(self, from: &mut R, buffer: &mut [u8]) -> Result<Next> {
-        let at = self.at;
-        let end = self.end;
-        if end <= at {
-            return fill(from, buffer);
-        }
-        if buffer.len() <= at {
-            return Ok(Next::End);
-        }
-        Ok(Next::Byte(buffer[at], Input { at: at + 1, end }))
-    }
-
-    // The first line.
-    pub fn first<R: Read>(mut self, from: &mut R, buffer: &mut [u8]) -> Result<First> {
-        let mut reader = SizesReader::new();
-        for _ in 0..TURNS {
-            match self.next(from, buffer)? {
-                Next::End => {
-                    return Ok(First {
-                        reader,
-                        input: self,
-                    });
-                }
-                Next::Byte(byte, rest) => {
-                    if byte == LF {
-                        return Ok(First {
-                            reader,
-                            input: rest,
-                        });
-                    }
-                    reader = reader.step(byte);
-                    self = rest;
-                }
+    // The next byte; None at the end of the input.
+    fn next(&mut self) -> Result<Option<u8>> {
+        if self.end <= self.at {
+            let end = self.from.read(&mut self.buffer)?;
+            self.end = end;
+            self.at = 0;
+            if end == 0 {
+                return Ok(None);
             }
         }
-        Ok(First {
-            reader,
-            input: self,
-        })
+        let byte = self.buffer[self.at];
+        self.at += 1;
+        Ok(Some(byte))
     }
 
-    // The next line is passed over; it may end with the input.
-    fn pass_line<R: Read>(mut self, from: &mut R, buffer: &mut [u8]) -> Result<Passed> {
+    // The bytes of the next line, each given to the closure; whether there was a line, which may end with the input.
+    pub fn line<F: FnMut(u8)>(&mut self, mut take: F) -> Result<bool>
+        requires { F.IsAlwaysCallable take }
+    {
         let mut is_begun = false;
         for _ in 0..TURNS {
-            match self.next(from, buffer)? {
-                Next::End => {
-                    return Ok(last_line(is_begun, self));
-                }
-                Next::Byte(byte, rest) => {
-                    if byte == LF {
-                        return Ok(Passed::Line(rest));
-                    }
-                    is_begun = true;
-                    self = rest;
-                }
+            let Some(byte) = self.next()? else {
+                return Ok(is_begun);
+            };
+            if byte == LF {
+                return Ok(true);
             }
+            take(byte);
+            is_begun = true;
         }
-        Ok(Passed::End)
+        Ok(false)
     }
-}
-
-// What the end of the input leaves: a line if one was begun.
-fn last_line(is_begun: bool, input: Input) -> Passed {
-    if is_begun {
-        Passed::Line(input)
-    } else {
-        Passed::End
-    }
-}
-
-// Reads once.
-fn fill<R: Read>(from: &mut R, buffer: &mut [u8]) -> Result<Next> {
-    let end = from.read(buffer)?;
-    if end == 0 {
-        return Ok(Next::End);
-    }
-    Ok(Next::Byte(buffer[0], Input { at: 1, end }))
 }
 
 // The sizes are outside the limits: each line is refused.
-pub fn refuse_lines<R: Read, W: Write>(
-    from: &mut R,
-    to: &mut W,
-    mut input: Input,
-    buffer: &mut [u8],
-    out: &mut [u8],
-) -> Result<()> {
-    let mut at = 0;
+pub fn refuse_lines<R: Read, W: Write>(input: &mut Input<R>, out: &mut W) -> Result<()> {
     for _ in 0..TURNS {
-        match input.pass_line(from, buffer)? {
-            Passed::End => {
-                return flush(to, out, at);
-            }
-            Passed::Line(rest) => {
-                at = put_text(to, out, at, b"1 -\n")?;
-                input = rest;
-            }
+        if !input.line(|_| ())? {
+            return out.flush();
         }
+        write!(out, "1 -\n")?;
     }
     Ok(())
 }

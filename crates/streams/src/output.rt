@@ -1,38 +1,53 @@
-// Standard output by way of a lent buffer. What is put goes to the place `at`, and the place after it is handed back; a full buffer is written.
-ghost use Rattle.std.specs.Prelude.{◌<◌};
+// Standard output by way of a buffer of fixed size, and what the programs print by it.
+ghost use Rattle.std.specs.Prelude.{◌≤◌};
 
+use std::cmp::min;
 use std::io::{Result, Write};
 
-pub fn put<W: Write>(to: &mut W, out: &mut [u8], at: usize, c: u8) -> Result<usize> {
-    if at < out.len() {
-        out[at] = c;
-        return Ok(at + 1);
-    }
-    to.write_all(out)?;
-    if out.len() == 0 {
-        return Ok(0);
-    }
-    out[0] = c;
-    Ok(1)
+const ROOM: usize = 65536;
+
+// A writer, and the bytes that are not yet written: the first `held` of the buffer. A full buffer is written.
+#[derive(Drop)]
+pub struct Output<W> {
+    to: W,
+    buffer: [u8; ROOM],
+    held: usize,
+    ghost in_room: { held ≤ 65536 },
 }
 
-// Writes what stands before the place.
-pub fn flush<W: Write>(to: &mut W, out: &[u8], at: usize) -> Result<()> {
-    if at <= out.len() {
-        to.write_all(&out[0..at])?;
+impl<W: Write> Output<W> {
+    pub fn new(to: W) -> Self {
+        Output {
+            to,
+            buffer: [0; ROOM],
+            held: 0,
+        }
     }
-    Ok(())
 }
 
-pub fn put_text<W: Write>(to: &mut W, out: &mut [u8], mut at: usize, text: &[u8]) -> Result<usize> {
-    for i in 0..text.len() {
-        at = put(to, out, at, text[i])?;
+impl<W: Write> Write for Output<W> {
+    fn write(&mut self, buf: &[u8]) -> Result<usize> {
+        if self.held == ROOM {
+            self.to.write_all(&self.buffer)?;
+            self.held = 0;
+        }
+        let count = min(buf.len(), ROOM - self.held);
+        let end = self.held + count;
+        self.buffer[self.held..end].copy_from_slice(&buf[..count]);
+        self.held = end;
+        Ok(count)
     }
-    Ok(at)
+
+    fn flush(&mut self) -> Result<()> {
+        self.to.write_all(&self.buffer[..self.held])?;
+        self.held = 0;
+        self.to.flush()
+    }
 }
 
-fn hexadecimal(digit: u8) -> u8
-    requires { digit < 16 }
+// A hexadecimal digit, a capital.
+pub fn hexadecimal(digit: u8) -> u8
+    requires { digit ≤ 15 }
 {
     if digit < 10 {
         b'0' + digit
@@ -41,57 +56,31 @@ fn hexadecimal(digit: u8) -> u8
     }
 }
 
-// Two hexadecimal digits.
-fn put_byte<W: Write>(to: &mut W, out: &mut [u8], at: usize, byte: u8) -> Result<usize> {
-    let low = put(to, out, at, hexadecimal(byte / 16))?;
-    put(to, out, low, hexadecimal(byte % 16))
-}
-
-pub fn put_bytes<W: Write>(
-    to: &mut W,
-    out: &mut [u8],
-    mut at: usize,
-    bytes: &[u8],
-) -> Result<usize> {
-    for i in 0..bytes.len() {
-        at = put_byte(to, out, at, bytes[i])?;
+// Two hexadecimal digits for each byte.
+pub fn put_bytes<W: Write>(out: &mut W, bytes: &[u8]) -> Result<()> {
+    for byte in bytes {
+        out.write_all(&[hexadecimal(byte / 16), hexadecimal(byte % 16)])?;
     }
-    Ok(at)
+    Ok(())
 }
 
-// A number in decimal digits.
-pub fn put_number<W: Write>(to: &mut W, out: &mut [u8], at: usize, n: u64) -> Result<usize> {
-    if n < 10 {
-        return put(to, out, at, b'0' + n as u8);
+// Each item by the closure, with the separator between one and the next; `-` if there is none.
+pub fn put_list<W: Write, T, F: Fn(&mut W, &T) -> Result<()>>(
+    out: &mut W,
+    items: &[T],
+    separator: &str,
+    put: F,
+) -> Result<()>
+    requires { F.IsAlwaysCallable put }
+{
+    if items.is_empty() {
+        return write!(out, "-");
     }
-    let mut digits = [0u8; 20];
-    let count = io::decimal(n, &mut digits);
-    put_text(to, out, at, &digits[..count])
-}
-
-// A number, and the character after it.
-pub fn put_number_and<W: Write>(
-    to: &mut W,
-    out: &mut [u8],
-    at: usize,
-    n: u64,
-    c: u8,
-) -> Result<usize> {
-    let next = put_number(to, out, at, n)?;
-    put(to, out, next, c)
-}
-
-// What stands between an item of a list and the one before; nothing before item 0.
-pub fn put_between<W: Write>(
-    to: &mut W,
-    out: &mut [u8],
-    at: usize,
-    item: usize,
-    c: u8,
-) -> Result<usize> {
-    if item == 0 {
-        Ok(at)
-    } else {
-        put(to, out, at, c)
+    for (i, item) in items.iter().enumerate() {
+        if i > 0 {
+            write!(out, "{separator}")?;
+        }
+        put(out, item)?;
     }
+    Ok(())
 }

@@ -5,21 +5,18 @@ use records::Sizes;
 
 const SPACE: u8 = b' ';
 
-// The numbers so far, clipped; the field that the line has come to, whether it is empty, and whether the line is unreadable.
-#[derive(Clone, Copy)]
-pub struct SizesReader {
-    numbers: [usize; 6],
+// The numbers so far, clipped; the field that the line has come to, and whether it is empty.
+#[derive(Clone, Copy, Drop)]
+struct Numbers {
+    items: [usize; 6],
     field: usize,
     is_empty: bool,
-    is_bad: bool,
+    ghost in_range: { field < 6 },
 }
 
-// So many stripes of these sizes.
-#[derive(Clone, Copy)]
-pub struct VolumeSizes {
-    pub stripes: usize,
-    pub z: Sizes,
-}
+// What was read of the line; None if it is unreadable.
+#[derive(Clone, Copy, Drop)]
+pub struct SizesReader(Option<Numbers>);
 
 // The number with one digit more; 10,000 for any that is larger than all sizes.
 fn grown(n: usize, digit: u8) -> usize {
@@ -30,99 +27,82 @@ fn grown(n: usize, digit: u8) -> usize {
     }
 }
 
-impl SizesReader {
-    pub fn new() -> Self
-        ensures { result.field < 6 }
-    {
-        let numbers = [0usize; 6];
-        SizesReader {
-            numbers,
-            field: 0,
-            is_empty: true,
-            is_bad: false,
-        }
-    }
-
-    fn spoiled(mut self) -> Self
-        requires { self.field < 6 }
-        ensures { result.field < 6 }
-    {
-        self.is_bad = true;
-        self
-    }
-
-    fn after_space(mut self) -> Self
-        requires { self.field < 6 }
-        ensures { result.field < 6 }
-    {
-        if self.is_empty {
-            return self.spoiled();
-        }
-        if self.field == 5 {
-            return self.spoiled();
+impl Numbers {
+    fn after_space(mut self) -> Option<Self> {
+        if self.is_empty || self.field == 5 {
+            return None;
         }
         self.field += 1;
         self.is_empty = true;
-        self
+        Some(self)
     }
 
-    fn after_digit(mut self, digit: u8) -> Self
-        requires { self.field < 6 }
-        ensures { result.field < 6 }
-    {
+    fn after_digit(mut self, digit: u8) -> Self {
         let at = self.field;
-        self.numbers[at] = grown(self.numbers[at], digit);
+        self.items[at] = grown(self.items[at], digit);
         self.is_empty = false;
         self
     }
 
+    // The line with one byte more.
+    fn step(self, byte: u8) -> Option<Self> {
+        match byte {
+            SPACE => self.after_space(),
+            b'0'..=b'9' => Some(self.after_digit(byte - b'0')),
+            _ => None,
+        }
+    }
+}
+
+impl SizesReader {
+    pub fn new() -> Self {
+        SizesReader(Some(Numbers {
+            items: [0; 6],
+            field: 0,
+            is_empty: true,
+        }))
+    }
+
     // The next byte of the line.
-    pub fn step(self, byte: u8) -> Self
-        requires { self.field < 6 }
-        ensures { result.field < 6 }
-    {
-        if byte == SPACE {
-            return self.after_space();
-        }
-        if byte < b'0' {
-            return self.spoiled();
-        }
-        if b'9' < byte {
-            return self.spoiled();
-        }
-        self.after_digit(byte - b'0')
+    pub fn step(self, byte: u8) -> Self {
+        SizesReader(self.0.and_then(|numbers| numbers.step(byte)))
     }
 
-    // Whether the line has numbers up to that one, counted from 0, and nothing else.
-    fn ends_at(self, last: usize) -> bool {
-        !self.is_bad && (!self.is_empty && self.field == last)
-    }
-
-    // The line's end: the sizes, which are outside the limits if the line is unreadable.
-    pub fn finish(self) -> Sizes {
-        let numbers = self.numbers;
-        Sizes {
-            k: if self.ends_at(4) { numbers[0] } else { 0 },
-            n: numbers[1],
-            b: numbers[2],
-            failures: numbers[3],
-            m: numbers[4],
+    // The numbers of the line that ends here, if it has so many and nothing else.
+    fn numbers(self, count: usize) -> Option<[usize; 6]> {
+        let Numbers {
+            items,
+            field,
+            is_empty,
+        } = self.0?;
+        if is_empty || field + 1 != count {
+            return None;
         }
+        Some(items)
     }
 
-    // The same for a volume: no stripes if the line is unreadable.
-    pub fn finish_volume(self) -> VolumeSizes {
-        let numbers = self.numbers;
+    // The sizes of a stripe.
+    pub fn finish(self) -> Option<Sizes> {
+        let [k, n, b, failures, m, _] = self.numbers(5)?;
+        Some(Sizes {
+            k,
+            n,
+            b,
+            failures,
+            m,
+        })
+    }
+
+    // The number of stripes of a volume, and their sizes.
+    pub fn finish_volume(self) -> Option<(usize, Sizes)> {
+        let [stripes, k, n, b, failures, m] = self.numbers(6)?;
         let z = Sizes {
-            k: numbers[1],
-            n: numbers[2],
-            b: numbers[3],
-            failures: numbers[4],
-            m: numbers[5],
+            k,
+            n,
+            b,
+            failures,
+            m,
         };
-        VolumeSizes {
-            stripes: if self.ends_at(5) { numbers[0] } else { 0 },
-            z: z,
-        }
+        Some((stripes, z))
     }
 }

@@ -7,19 +7,16 @@ mod next_line; // next_line.rt: the next line of standard input
 
 use std::io::Result;
 use streams::input::{Input, refuse_lines};
+use streams::output::Output;
+use streams::sizes::SizesReader;
 
 fn main(rt: HostRuntime) -> Result<()> {
-    let mut from = rt.stdin();
-    let mut to = rt.stdout();
-    let mut buffer = [0u8; 65536];
-    let mut out = [0u8; 65536];
-    let first = Input::new().first(&mut from, &mut buffer)?;
-    let reader = first.reader;
-    let input = first.input;
-    let sizes = reader.finish();
-    if sizes.within() {
-        lines::play_lines(&mut from, &mut to, sizes, input, &mut buffer, &mut out)
-    } else {
-        refuse_lines(&mut from, &mut to, input, &mut buffer, &mut out)
+    let mut input = Input::new(rt.stdin());
+    let mut out = Output::new(rt.stdout());
+    let mut reader = SizesReader::new();
+    input.line(|byte| reader = reader.step(byte))?;
+    match reader.finish() {
+        Some(z) if z.within() => lines::play_lines(&mut input, &mut out, z),
+        _ => refuse_lines(&mut input, &mut out),
     }
 }

@@ -1,24 +1,17 @@
 // The lines of standard input.
 use script::reader::{Line, LineReader};
 use std::io::{Read, Result};
-use streams::input::{Input, LF, Next, TURNS};
+use streams::input::Input;
 
-// What a line asks for: a call, or the image of the stripe, `M`, which is no call of the machine.
+// What a line asks for: a call, None if it is unreadable, or the image of the stripe, `M`, which is no call of the machine.
 #[derive(Clone, Copy)]
 pub enum Order {
-    Call(Line),
+    Call(Option<Line>),
     Image,
 }
 
-// An order, and the input after it.
-#[derive(Clone, Copy)]
-pub enum Taken {
-    End,
-    Line(Order, Input),
-}
-
 // What a line is so far: without a byte, M alone, or anything else.
-#[derive(Clone, Copy)]
+#[derive(Clone, Copy, PartialEq, Eq)]
 enum Begun {
     Nothing,
     M,
@@ -27,55 +20,27 @@ enum Begun {
 
 impl Begun {
     fn step(self, byte: u8) -> Begun {
-        match self {
-            Begun::Nothing => { if byte == b'M' { Begun::M } else { Begun::Other } }
-            Begun::M => Begun::Other,
-            Begun::Other => Begun::Other,
-        }
-    }
-
-    // The order of a line that ends here.
-    fn order(self, reader: LineReader) -> Order {
-        match self {
-            Begun::Nothing => Order::Call(reader.finish()),
-            Begun::M => Order::Image,
-            Begun::Other => Order::Call(reader.finish()),
-        }
-    }
-
-    // What the end of the input leaves: a line if one was begun.
-    fn last_line(self, reader: LineReader, input: Input) -> Taken {
-        match self {
-            Begun::Nothing => Taken::End,
-            Begun::M => Taken::Line(self.order(reader), input),
-            Begun::Other => Taken::Line(self.order(reader), input),
+        if self == Begun::Nothing && byte == b'M' {
+            Begun::M
+        } else {
+            Begun::Other
         }
     }
 }
 
-// The next line, which may end with the input. Its value goes to the buffer lent for it.
-pub fn take_line<R: Read>(
-    from: &mut R,
-    mut input: Input,
-    buffer: &mut [u8],
-    value: &mut [u8],
-) -> Result<Taken> {
+// The next line, if there is one. Its value goes to the buffer lent for it.
+pub fn take_line<R: Read>(input: &mut Input<R>, value: &mut [u8]) -> Result<Option<Order>> {
     let mut reader = LineReader::new();
     let mut begun = Begun::Nothing;
-    for _ in 0..TURNS {
-        match input.next(from, buffer)? {
-            Next::End => {
-                return Ok(begun.last_line(reader, input));
-            }
-            Next::Byte(byte, rest) => {
-                if byte == LF {
-                    return Ok(Taken::Line(begun.order(reader), rest));
-                }
-                reader = reader.step(byte, value);
-                begun = begun.step(byte);
-                input = rest;
-            }
-        }
+    let is_line = input.line(|byte| {
+        reader = reader.step(byte, value);
+        begun = begun.step(byte);
+    })?;
+    if !is_line {
+        return Ok(None);
     }
-    Ok(Taken::End)
+    if begun == Begun::M {
+        return Ok(Some(Order::Image));
+    }
+    Ok(Some(Order::Call(reader.finish())))
 }

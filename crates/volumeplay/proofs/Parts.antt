@@ -1,47 +1,70 @@
--- What a line is lent lies in its table, and a call on what is lent is a call on these parts. Assumes nothing.
---     called     so the line's call says `CallsPart`
-use mathlib.Core.List.{List}
-use mathlib.Core.Path.{◌≡◌}
-use Prim.Native.Nat.{ℕ}
+-- The first elements of a table, as many as a volume has, or all. Assumes nothing.
+--     called       what a call on them leaves is what `CallsPart` says
+use mathlib.Core.List.{List, [], ◌++◌, append-nil}
+use mathlib.Core.Path.{◌≡◌, refl, sym, ap, ◌∙◌, transport}
+use Prim.Native.Nat.{ℕ, min, ◌≤◌}
+use native.Mathlib.Decide.{dec_le}
 use native.Mathlib.Omega.{arith}
-use lib.ListN.{length}
+use lib.ListN.{length, take, drop, drop_of_length-le, length-append, length-take}
+use lib.Seq.{take_all, take_at, drop_at}
 use Rattle.calls.specs.declared.Answer.{Answer}
-use Rattle.parts.specs.Inside.{cut, paste}
-use Rattle.parts.proofs.Insides.{Cut, inside-at}
-use Rattle.parts.proofs.Part.{Within}
 use Rattle.records.specs.declared.ClientRecord.{ClientRecord}
 use Rattle.records.specs.declared.NodeRecord.{NodeRecord}
 use Rattle.routing.specs.declared.Request.{Request}
+use Rattle.tables.specs.declared.Volume.{Volume}
+use Rattle.tables.specs.Parts.{lengths_of}
+use Rattle.volumescript.specs.declared.reader.VolumeLine.{VolumeLine}
+use Rattle.volumescript.specs.Asking.{call_in, count_in}
 use Rattle.volumeshelf.specs.Volumes.{CallsVolume}
-use Rattle.volumeplay.specs.declared.Turn.{Turn}
-use Rattle.volumeplay.specs.Asking.{CallsPart, bytes_part, call_asked, clients_part, first_ones, nodes_part, value_part}
+use Rattle.volumeplay.specs.Asking.{CallsPart}
 
-first-within : (n len : ℕ) → Within (first_ones n len) len
-first-within n len = record { order = omega arith; fits = omega arith }
+-- n elements of xs, or all: k are there
+module _ {X : Type 0} (n k : ℕ) (xs : List X) (is : k ≡ min n (length xs)) where
+  pub first : take k xs ≡ take n xs
+  first = by (dec_le n (length xs))
+    where
+      by : Dec (n ≤ length xs) → take k xs ≡ take n xs
+      by (yes h) = let same : k ≡ n = omega (arith, is, h) in ap (λ (m : ℕ). take m xs) same
+      by (no h) = take_all k xs (omega (arith, is, h)) ∙ sym (take_all n xs (omega (arith, h)))
 
-nodes_within : (t : Turn) (len : ℕ) → Within (nodes_part t len) len
-nodes_within t len = first-within _ len
+  -- others in their place
+  module _ (ys : List X) (len : length ys ≡ length (take k xs)) where
+    pub placed : take n (ys ++ drop k xs) ≡ ys
+    placed = by (dec_le n (length xs))
+      where
+        by : Dec (n ≤ length xs) → take n (ys ++ drop k xs) ≡ ys
+        by (yes h) = take_at ys (drop k xs) n (omega (arith, len, length-take k xs, is, h))
+        by (no h) =
+            let few : length ys ≤ n = omega (arith, len, length-take k xs, is, h) in
+            let none_after : drop k xs ≡ [] = drop_of_length-le xs (omega (arith, is, h)) in
+            ap (λ (r : List X). take n (ys ++ r)) none_after ∙ ap (λ (r : List X). take n r) (append-nil ys) ∙ take_all n ys few
 
-clients_within : (t : Turn) (len : ℕ) → Within (clients_part t len) len
-clients_within t len = first-within _ len
+    pub rest : drop n (ys ++ drop k xs) ≡ drop n xs
+    rest = by (dec_le n (length xs))
+      where
+        by : Dec (n ≤ length xs) → drop n (ys ++ drop k xs) ≡ drop n xs
+        by (yes h) =
+            let same : k ≡ n = omega (arith, is, h) in
+            drop_at ys (drop k xs) n (omega (arith, len, length-take k xs, is, h)) ∙ ap (λ (m : ℕ). drop m xs) same
+        by (no h) =
+            let few : length ys ≤ n = omega (arith, len, length-take k xs, is, h) in
+            let none_after : drop k xs ≡ [] = drop_of_length-le xs (omega (arith, is, h)) in
+            ap (λ (r : List X). drop n (ys ++ r)) none_after ∙ ap (λ (r : List X). drop n r) (append-nil ys) ∙ drop_of_length-le ys few
+            ∙ sym (drop_of_length-le xs (omega (arith, h)))
 
-bytes-within : (t : Turn) (len : ℕ) → Within (bytes_part t len) len
-bytes-within t len = record { order = omega arith; fits = omega arith }
-
-module _ (t : Turn) (nodes : List NodeRecord) (clients : List ClientRecord) (blocks spare differences value : List ℕ) where
-  pub called : (q : Request) → q ≡ call_asked t → (answer : Answer) (ns : List NodeRecord) (cs : List ClientRecord) (bs ss ds : List ℕ)
-      (a0 e0 a1 e1 a2 e2 a3 e3 a4 e4 a5 e5 : ℕ)
-      → Cut (nodes_part t (length nodes)) a0 e0 → Cut (clients_part t (length clients)) a1 e1 → Cut (bytes_part t (length blocks)) a2 e2
-      → Cut (bytes_part t (length spare)) a3 e3 → Cut (bytes_part t (length differences)) a4 e4 → Cut (value_part t (length value)) a5 e5
-      → length ns ≡ length (cut a0 e0 nodes) → length cs ≡ length (cut a1 e1 clients) → length bs ≡ length (cut a2 e2 blocks)
-      → length ss ≡ length (cut a3 e3 spare) → length ds ≡ length (cut a4 e4 differences)
-      → CallsVolume (cut a0 e0 nodes) (cut a1 e1 clients) (cut a2 e2 blocks) (cut a3 e3 spare) (cut a4 e4 differences) (cut a5 e5 value) q answer ns cs bs ss ds
-      → CallsPart nodes clients blocks spare differences value t answer
-      (paste a0 e0 nodes ns) (paste a1 e1 clients cs) (paste a2 e2 blocks bs) (paste a3 e3 spare ss) (paste a4 e4 differences ds)
-  called q q-is answer ns cs bs ss ds a0 e0 a1 e1 a2 e2 a3 e3 a4 e4 a5 e5 =
-      inside-at CallsVolume nodes clients blocks spare differences value
-      (nodes_part t (length nodes)) (clients_part t (length clients)) (bytes_part t (length blocks)) (bytes_part t (length spare))
-      (bytes_part t (length differences)) (value_part t (length value)) (call_asked t) q q-is answer ns cs bs ss ds
-      a0 e0 a1 e1 a2 e2 a3 e3 a4 e4 a5 e5
-      (nodes_within t (length nodes)) (clients_within t (length clients)) (bytes-within t (length blocks)) (bytes-within t (length spare))
-      (bytes-within t (length differences))
+module _ (nodes : List NodeRecord) (clients : List ClientRecord) (blocks spare differences value : List ℕ) (v : Volume) (line : VolumeLine) (k m t : ℕ)
+    (k-is : k ≡ min (lengths_of v).nodes (length nodes)) (m-is : m ≡ min (lengths_of v).clients (length clients)) (t-is : t ≡ min (count_in line) (length value)) where
+  pub called : (q : Request) → q ≡ call_in line v → (answer : Answer) (ns : List NodeRecord) (cs : List ClientRecord) (bs ss ds : List ℕ)
+      → length ns ≡ length (take k nodes) → length cs ≡ length (take m clients)
+      → CallsVolume (take k nodes) (take m clients) blocks spare differences (take t value) q answer ns cs bs ss ds
+      → CallsPart nodes clients blocks spare differences value v line answer (ns ++ drop k nodes) (cs ++ drop m clients) bs ss ds
+  called q q-is answer ns cs bs ss ds n-long c-long said =
+      let n = (lengths_of v).nodes in
+      let c = (lengths_of v).clients in
+      record {
+        called = transport (λ i. CallsVolume (first n k nodes k-is i) (first c m clients m-is i) blocks spare differences
+            (first (count_in line) t value t-is i) (q-is i) answer
+            (sym (placed n k nodes k-is ns n-long) i) (sym (placed c m clients m-is cs c-long) i) bs ss ds) said;
+        nodes_after = rest n k nodes k-is ns n-long;
+        clients_after = rest c m clients m-is cs c-long;
+      }

@@ -1,14 +1,25 @@
 // The lines of a script, one after the other, on the volume's tables.
-ghost use Rattle.std.specs.Prelude.{◌≡◌, length, IfOk, OnErr};
+ghost use Rattle.std.specs.Prelude.{◌≡◌, length, min, OnErr};
 ghost use Rattle.volumeplay.specs.Asking.{AnswersPart, CallsPart};
 
-use crate::table::{take_clients, take_nodes};
-use crate::{CLIENTS, NODES, Player, Turn};
+use crate::next_line::take_line;
+use crate::show::put_line;
+use crate::{CLIENTS, NODES};
 use calls::Answer;
 use records::{ClientRecord, NodeRecord};
 use std::io::{Read, Result, Write};
+use streams::input::{Input, TURNS};
+use tables::Volume;
+use volumescript::reader::VolumeLine;
 
-// The line's call, on the tables' parts of the volume.
+// As many as there are, or all.
+fn least(count: usize, len: usize) -> usize
+    ensures { result ≡ min count len }
+{
+    if count < len { count } else { len }
+}
+
+// The line's call, on the tables' parts of the volume. There is room for one byte more than any call takes: a longer value is then refused for its length.
 fn call_part(
     nodes: &mut [NodeRecord],
     clients: &mut [ClientRecord],
@@ -16,105 +27,88 @@ fn call_part(
     spare: &mut [u8],
     differences: &mut [u8],
     value: &[u8],
-    turn: Turn,
+    volume: Volume,
+    line: VolumeLine,
 ) -> Answer
     ensures { CallsPart nodes.old clients.old blocks.old spare.old differences.old
-        value.now turn result nodes.new clients.new blocks.new spare.new differences.new }
+        value.now volume line result nodes.new clients.new blocks.new spare.new differences.new }
 {
-    let n0 = nodes.len();
-    let a0 = turn.from(n0);
-    let e0 = turn.nodes_to(n0);
-    let n1 = clients.len();
-    let a1 = turn.from(n1);
-    let e1 = turn.clients_to(n1);
-    let n2 = blocks.len();
-    let a2 = turn.from(n2);
-    let e2 = turn.bytes_to(n2);
-    let n3 = spare.len();
-    let a3 = turn.from(n3);
-    let e3 = turn.bytes_to(n3);
-    let n4 = differences.len();
-    let a4 = turn.from(n4);
-    let e4 = turn.bytes_to(n4);
-    let n5 = value.len();
-    let a5 = turn.from(n5);
-    let e5 = turn.value_to(n5);
-    let request = turn.call();
+    let lengths = volume.lengths();
+    let nodes_to = least(lengths.nodes, nodes.len());
+    let clients_to = least(lengths.clients, clients.len());
+    let value_to = least(line.count(), value.len());
     volumeshelf::call(
-        &mut nodes[a0..e0],
-        &mut clients[a1..e1],
-        &mut blocks[a2..e2],
-        &mut spare[a3..e3],
-        &mut differences[a4..e4],
-        &value[a5..e5],
-        request,
+        &mut nodes[..nodes_to],
+        &mut clients[..clients_to],
+        blocks,
+        spare,
+        differences,
+        &value[..value_to],
+        line.call(volume),
     )
 }
 
-// What the line's read is answered.
-fn read_part(nodes: &[NodeRecord], clients: &[ClientRecord], turn: Turn) -> Answer
-    ensures { AnswersPart nodes.now clients.now turn result }
+// What the line's read is answered. The bytes have been cut out: the blocks and the spare have the volume's length.
+fn read_part(
+    nodes: &[NodeRecord],
+    clients: &[ClientRecord],
+    volume: Volume,
+    line: VolumeLine,
+) -> Answer
+    ensures { AnswersPart nodes.now clients.now volume line result }
 {
-    let n0 = nodes.len();
-    let n1 = clients.len();
-    let walk = turn.begin_read(n0, n1);
-    let a0 = walk.from(n0);
-    let e0 = walk.nodes_to(n0);
-    let a1 = walk.from(n1);
-    let e1 = walk.clients_to(n1);
-    let inner = walk.read();
-    let answer = volumeshelf::read_answer(&nodes[a0..e0], &clients[a1..e1], inner);
-    walk.after_read(answer)
+    let lengths = volume.lengths();
+    let nodes_to = least(lengths.nodes, nodes.len());
+    let clients_to = least(lengths.clients, clients.len());
+    let read = line.read(volume).sized(lengths.blocks, lengths.blocks);
+    volumeshelf::read_answer(&nodes[..nodes_to], &clients[..clients_to], read)
 }
 
 // All lines, from fresh records on. A read or a write that fails ends it, with that error alone.
 pub fn play<R: Read, W: Write>(
-    from: &mut R,
-    to: &mut W,
+    input: &mut Input<R>,
+    out: &mut W,
+    volume: Volume,
     blocks: &mut [u8],
     spare: &mut [u8],
     differences: &mut [u8],
     value: &mut [u8],
-    buffer: &mut [u8],
-    out: &mut [u8],
-    node: NodeRecord,
-    client: ClientRecord,
-    start: Player,
-) -> Result<Player>
-    ensures ended { IfOk result (λ player. player.left ≡ 0) }
+) -> Result<()>
     ensures err { OnErr result ((length blocks.new ≡ length blocks.old) × (length spare.new ≡ length spare.old)
-        × (length differences.new ≡ length differences.old) × (length value.new ≡ length value.old)
-        × (length buffer.new ≡ length buffer.old) × (length out.new ≡ length out.old)) }
+        × (length differences.new ≡ length differences.old) × (length value.new ≡ length value.old)) }
 {
-    let mut nodes = [node; NODES];
-    let mut clients = [client; CLIENTS];
-    let mut now = start;
-    while now.goes_on() {
-        let turn = now.next(from, buffer, value)?;
-        let answer = call_part(
+    let mut nodes = [NodeRecord::fresh(); NODES];
+    let mut clients = [ClientRecord::fresh(); CLIENTS];
+    for _ in 0..TURNS {
+        let Some(line) = take_line(input, value)? else {
+            return out.flush();
+        };
+        let called = call_part(
             &mut nodes,
             &mut clients,
             blocks,
             spare,
             differences,
             value,
-            turn,
+            volume,
+            line,
         );
-        let told = read_part(&nodes, &clients, turn);
-        let seen = take_nodes(&nodes, turn);
-        let taken = take_clients(&clients, turn);
-        let next = turn.print(
-            to,
+        let answer = if line.is_read() {
+            read_part(&nodes, &clients, volume, line)
+        } else {
+            called
+        };
+        put_line(
+            out,
+            volume,
+            line,
             answer,
-            told,
-            seen,
-            taken,
+            &nodes,
+            &clients,
             blocks,
             spare,
             differences,
-            out,
         )?;
-        now = next;
     }
-    Ok(now)
+    Ok(())
 }

@@ -1,149 +1,100 @@
 // What is printed of a line: `ANSWER RETURNED`, or `0 STATE`.
-ghost use Rattle.std.specs.Prelude.{◌≡◌, ◌≤◌, length, IfOk, OnErr};
+ghost use Rattle.std.specs.Prelude.{◌≡◌, ◌≤◌, length};
 
-use crate::stripes::{ClientsTaken, NodesTaken};
-use crate::{Player, Turn};
+use crate::stripes::records_in;
 use answers::put_answer;
 use blocks::block_of;
 use calls::Answer;
 use format::state::put_state;
-use records::Source;
+use records::{ClientRecord, NodeRecord, Source};
 use std::io::{Result, Write};
 use step::Clients;
-use streams::output::{flush, put, put_text};
 use stripe::Nodes;
 use tables::{Volume, stripe_part, table_blocks, table_differences};
 use volumescript::reader::VolumeLine;
 
+// The clients of stripe s.
+fn clients_of(clients: &[ClientRecord], volume: Volume, s: usize) -> Clients {
+    Clients {
+        items: records_in(clients, s, volume.z.m, ClientRecord::fresh()),
+    }
+}
+
 // Stripe s, if there is one.
 fn put_stripe<W: Write>(
-    to: &mut W,
-    out: &mut [u8],
-    at: usize,
+    out: &mut W,
     volume: Volume,
     s: usize,
-    nodes: Nodes,
-    clients: Clients,
+    nodes: &[NodeRecord],
+    clients: &[ClientRecord],
     blocks: &[u8],
     spare: &[u8],
     differences: &[u8],
-) -> Result<usize> {
+) -> Result<()> {
     let z = volume.z;
     if volume.stripes <= s {
-        return put_text(to, out, at, b"2 -\n");
+        return write!(out, "2 -\n");
     }
     if !z.within() {
-        return put_text(to, out, at, b"1 -\n");
+        return write!(out, "1 -\n");
     }
     let blocks = stripe_part(blocks, s, table_blocks(z));
     let spare = stripe_part(spare, s, table_blocks(z));
     let differences = stripe_part(differences, s, table_differences(z));
     if blocks.len() != table_blocks(z) {
-        return put_text(to, out, at, b"1 -\n");
+        return write!(out, "1 -\n");
     }
-    let next = put_text(to, out, at, b"0 ")?;
-    put_state(to, out, next, z, nodes, clients, blocks, spare, differences)
+    let nodes = Nodes {
+        items: records_in(nodes, s, z.n, NodeRecord::fresh()),
+    };
+    let clients = clients_of(clients, volume, s);
+    write!(out, "0 ")?;
+    put_state(out, z, nodes, clients, blocks, spare, differences)
 }
 
 // An answer, and what is returned with it; the block that a read shows is in this table.
 fn put_given<W: Write>(
-    to: &mut W,
-    out: &mut [u8],
-    at: usize,
+    out: &mut W,
     volume: Volume,
     line: VolumeLine,
-    given: Answer,
-    clients: Clients,
+    answer: Answer,
+    clients: &[ClientRecord],
     table: &[u8],
-) -> Result<usize> {
+) -> Result<()> {
     let z = volume.z;
     if !z.within() {
-        return put_text(to, out, at, b"1 -\n");
+        return write!(out, "1 -\n");
     }
     let read = line.read(volume);
     let own = stripe_part(table, read.stripe, table_blocks(z));
     let shown = block_of(own, z.b, read.i as usize);
-    let next = put_answer(to, out, at, z.m, line.picker(), given, clients, shown)?;
-    put(to, out, next, b'\n')
+    match line.pick() {
+        Some((s, c)) => {
+            let clients = clients_of(clients, volume, s);
+            put_answer(out, z.m, Some(c), answer, clients, shown)?
+        }
+        None => put_answer(out, z.m, None, answer, Clients::fresh(), shown)?,
+    }
+    write!(out, "\n")
 }
 
-// The answer of the call, and that of the read: one of them was refused, since a line is not both.
-fn put_call<W: Write>(
-    to: &mut W,
-    out: &mut [u8],
-    at: usize,
+// The line of a call, of a read or of a stripe that is shown.
+pub(crate) fn put_line<W: Write>(
+    out: &mut W,
     volume: Volume,
     line: VolumeLine,
     answer: Answer,
-    told: Answer,
-    clients: Clients,
+    nodes: &[NodeRecord],
+    clients: &[ClientRecord],
     blocks: &[u8],
     spare: &[u8],
-) -> Result<usize> {
-    let given = if line.is_read() { told } else { answer };
-    let Answer::Shown(source) = given else {
-        return put_given(to, out, at, volume, line, given, clients, blocks);
-    };
-    match source {
-        Source::Live => put_given(to, out, at, volume, line, given, clients, blocks),
-        Source::Spare => put_given(to, out, at, volume, line, given, clients, spare),
+    differences: &[u8],
+) -> Result<()> {
+    if let VolumeLine::Show(s) = line {
+        return put_stripe(out, volume, s, nodes, clients, blocks, spare, differences);
     }
-}
-
-impl Turn {
-    // Prints the line; at the end of the input, what is left in the buffer.
-    pub(crate) fn print<W: Write>(
-        self,
-        to: &mut W,
-        answer: Answer,
-        told: Answer,
-        seen: NodesTaken,
-        taken: ClientsTaken,
-        blocks: &[u8],
-        spare: &[u8],
-        differences: &[u8],
-        out: &mut [u8],
-    ) -> Result<Player>
-        ensures left { IfOk result (λ player. player.left ≤ self.player.left) }
-        ensures err { OnErr result (length out.new ≡ length out.old) }
-    {
-        let player = self.player;
-        let line = self.line;
-        let volume = player.volume;
-        let input = player.input;
-        let nodes = seen.nodes;
-        let clients = taken.clients;
-        if self.is_end {
-            flush(to, out, player.at)?;
-            return Ok(Player {
-                left: 0,
-                volume: volume,
-                input: input,
-                at: 0,
-            });
-        }
-        let next = match line {
-            VolumeLine::Show(s) => put_stripe(
-                to,
-                out,
-                player.at,
-                volume,
-                s,
-                nodes,
-                clients,
-                blocks,
-                spare,
-                differences,
-            )?,
-            _ => put_call(
-                to, out, player.at, volume, line, answer, told, clients, blocks, spare,
-            )?,
-        };
-        Ok(Player {
-            left: player.left,
-            volume: volume,
-            input: input,
-            at: next,
-        })
+    match answer {
+        Answer::Shown(Source::Spare) => put_given(out, volume, line, answer, clients, spare),
+        _ => put_given(out, volume, line, answer, clients, blocks),
     }
 }

@@ -4,12 +4,12 @@
 ghost use Rattle.std.specs.Prelude.{◌≡◌};
 ghost use Rattle.volumerun.specs.Memory.{Fits, fits_in};
 
-use records::{ClientRecord, NodeRecord};
 use std::io::{Read, Result, Write};
-use streams::input::{Input, TURNS, refuse_lines};
-use streams::output::{flush, put_text};
+use streams::input::{Input, refuse_lines};
+use streams::output::Output;
+use streams::sizes::SizesReader;
 use tables::Volume;
-use volumeplay::{CLIENTS, NODES, Player, entry};
+use volumeplay::{CLIENTS, NODES, entry};
 
 // What there is memory for beside the records, of all stripes together: bytes of blocks, and of spare as many, bytes of differences, bytes of a value.
 const BLOCKS: usize = 131_072;
@@ -29,14 +29,7 @@ fn fits(volume: Volume) -> bool
 }
 
 // The script, on a fresh volume.
-fn play_lines<R: Read, W: Write>(
-    from: &mut R,
-    to: &mut W,
-    volume: Volume,
-    input: Input,
-    buffer: &mut [u8],
-    out: &mut [u8],
-) -> Result<()>
+fn play_lines<R: Read, W: Write>(input: &mut Input<R>, out: &mut W, volume: Volume) -> Result<()>
     requires { Fits volume }
 {
     let mut blocks = [0u8; BLOCKS];
@@ -44,50 +37,32 @@ fn play_lines<R: Read, W: Write>(
     let mut differences = [0x55u8; DIFFERENCES];
     let mut value = [0u8; VALUE + 1];
     let lengths = volume.lengths();
-    let of_nodes = lengths.blocks;
-    let of_clients = lengths.differences;
-    let start = Player {
-        left: TURNS,
-        volume: volume,
-        input: input,
-        at: 0,
-    };
     entry::play(
-        from,
-        to,
-        &mut blocks[0..of_nodes],
-        &mut spare[0..of_nodes],
-        &mut differences[0..of_clients],
-        &mut value,
-        buffer,
+        input,
         out,
-        NodeRecord::fresh(),
-        ClientRecord::fresh(),
-        start,
-    )?;
-    Ok(())
+        volume,
+        &mut blocks[..lengths.blocks],
+        &mut spare[..lengths.blocks],
+        &mut differences[..lengths.differences],
+        &mut value,
+    )
 }
 
 fn main(rt: HostRuntime) -> Result<()> {
-    let mut from = rt.stdin();
-    let mut to = rt.stdout();
-    let mut buffer = [0u8; 65536];
-    let mut out = [0u8; 65536];
-    let first = Input::new().first(&mut from, &mut buffer)?;
-    let reader = first.reader;
-    let input = first.input;
-    let sizes = reader.finish_volume();
-    let z = sizes.z;
-    let volume = Volume {
-        stripes: sizes.stripes,
-        z: z,
+    let mut input = Input::new(rt.stdin());
+    let mut out = Output::new(rt.stdout());
+    let mut reader = SizesReader::new();
+    input.line(|byte| reader = reader.step(byte))?;
+    let Some((stripes, z)) = reader.finish_volume() else {
+        return refuse_lines(&mut input, &mut out);
     };
+    let volume = Volume { stripes, z };
     if !volume.within() {
-        refuse_lines(&mut from, &mut to, input, &mut buffer, &mut out)
-    } else if fits(volume) {
-        play_lines(&mut from, &mut to, volume, input, &mut buffer, &mut out)
-    } else {
-        let at = put_text(&mut to, &mut out, 0, b"too large\n")?;
-        flush(&mut to, &out, at)
+        return refuse_lines(&mut input, &mut out);
     }
+    if fits(volume) {
+        return play_lines(&mut input, &mut out, volume);
+    }
+    write!(out, "too large\n")?;
+    out.flush()
 }

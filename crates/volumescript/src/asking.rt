@@ -21,7 +21,7 @@ fn no_volume() -> Volume
         failures: 0,
         m: 0,
     };
-    Volume { stripes: 0, z: z }
+    Volume { stripes: 0, z }
 }
 
 fn no_call() -> Request
@@ -29,7 +29,7 @@ fn no_call() -> Request
 {
     let volume = no_volume();
     Request {
-        volume: volume,
+        volume,
         stripe: 0,
         call: VolumeCall::Pick(0),
     }
@@ -40,7 +40,7 @@ fn no_read() -> ReadRequest
 {
     let volume = no_volume();
     ReadRequest {
-        volume: volume,
+        volume,
         stripe: 0,
         i: 0,
     }
@@ -53,12 +53,12 @@ fn call_of(volume: Volume, s: usize, call: Call) -> Request
     match call {
         Call::Read(_) => no_call(),
         Call::Pick(c) => Request {
-            volume: volume,
+            volume,
             stripe: s,
             call: VolumeCall::Pick(c),
         },
         Call::Step(step) => Request {
-            volume: volume,
+            volume,
             stripe: s,
             call: VolumeCall::Step(step),
         },
@@ -69,8 +69,7 @@ fn call_of(volume: Volume, s: usize, call: Call) -> Request
 fn home_of(volume: Volume, b: usize) -> Home
     ensures { result ≡ home_of volume.z.k b }
 {
-    let z = volume.z;
-    layout::block_home(z.k, b)
+    layout::block_home(volume.z.k, b)
 }
 
 fn swap_of(volume: Volume, c: u8, b: usize) -> Request
@@ -78,7 +77,7 @@ fn swap_of(volume: Volume, c: u8, b: usize) -> Request
 {
     let home = home_of(volume, b);
     Request {
-        volume: volume,
+        volume,
         stripe: home.stripe,
         call: VolumeCall::Step(StepCall::Swap(c, home.position)),
     }
@@ -90,12 +89,11 @@ fn read_of(volume: Volume, s: usize, call: Call) -> ReadRequest
 {
     match call {
         Call::Read(i) => ReadRequest {
-            volume: volume,
+            volume,
             stripe: s,
-            i: i,
+            i,
         },
-        Call::Pick(_) => no_read(),
-        Call::Step(_) => no_read(),
+        _ => no_read(),
     }
 }
 
@@ -104,7 +102,7 @@ fn read_block_of(volume: Volume, b: usize) -> ReadRequest
 {
     let home = home_of(volume, b);
     ReadRequest {
-        volume: volume,
+        volume,
         stripe: home.stripe,
         i: home.position,
     }
@@ -116,12 +114,10 @@ impl VolumeLine {
         ensures { result ≡ count_in self }
     {
         match self {
-            VolumeLine::Unreadable => 0,
-            VolumeLine::One(_, _, count) => count,
-            VolumeLine::Each(_, count) => count,
-            VolumeLine::ReadBlock(_) => 0,
-            VolumeLine::SwapBlock(_, _, count) => count,
-            VolumeLine::Show(_) => 0,
+            VolumeLine::One(_, _, count)
+            | VolumeLine::Each(_, count)
+            | VolumeLine::SwapBlock(_, _, count) => count,
+            _ => 0,
         }
     }
 
@@ -130,12 +126,10 @@ impl VolumeLine {
         ensures { result ≡ call_in self volume }
     {
         match self {
-            VolumeLine::Unreadable => no_call(),
             VolumeLine::One(s, call, _) => call_of(volume, s, call),
             VolumeLine::Each(call, _) => call_of(volume, 0, call),
-            VolumeLine::ReadBlock(_) => no_call(),
             VolumeLine::SwapBlock(c, b, _) => swap_of(volume, c, b),
-            VolumeLine::Show(_) => no_call(),
+            _ => no_call(),
         }
     }
 
@@ -144,12 +138,9 @@ impl VolumeLine {
         ensures { result ≡ read_in self volume }
     {
         match self {
-            VolumeLine::Unreadable => no_read(),
             VolumeLine::One(s, call, _) => read_of(volume, s, call),
-            VolumeLine::Each(_, _) => no_read(),
             VolumeLine::ReadBlock(b) => read_block_of(volume, b),
-            VolumeLine::SwapBlock(_, _, _) => no_read(),
-            VolumeLine::Show(_) => no_read(),
+            _ => no_read(),
         }
     }
 }

@@ -2,7 +2,7 @@
 ghost use Rattle.std.specs.Prelude.{List, [], ◌∷◌, ◌≡◌, ℕ};
 ghost use Rattle.calls.specs.Calls.{call_of};
 ghost use Rattle.script.specs.Reading.{call_in, number_from};
-ghost use Rattle.volume.specs.Volume.{is_of_each, is_stop};
+ghost use Rattle.volume.specs.Volume.{is_of_each};
 ghost use Rattle.volumescript.specs.Lines.{of_each, of_one};
 ghost use Rattle.volumescript.specs.Reading.{Finishes, Follows, HasRead, after_number, line_told, with_bytes};
 
@@ -84,13 +84,13 @@ impl VolumeReader {
         ensures { Finishes self result }
     {
         match self {
-            VolumeReader::Unreadable => VolumeLine::Unreadable,
-            VolumeReader::Start => VolumeLine::Unreadable,
-            VolumeReader::Letter(_) => VolumeLine::Unreadable,
-            VolumeReader::Word(_) => VolumeLine::Unreadable,
-            VolumeReader::Stripe(_) => VolumeLine::Unreadable,
+            VolumeReader::Unreadable
+            | VolumeReader::Start
+            | VolumeReader::Letter(_)
+            | VolumeReader::Word(_)
+            | VolumeReader::Stripe(_)
+            | VolumeReader::Block(_, _) => VolumeLine::Unreadable,
             VolumeReader::First(word, number) => with_number(word, number),
-            VolumeReader::Block(_, _) => VolumeLine::Unreadable,
             VolumeReader::One(s, line) => one(s, line.finish()),
             VolumeReader::Each(line) => each(line.finish()),
             VolumeReader::Value(c, b, line) => swap(c, b, line.finish()),
@@ -161,8 +161,7 @@ fn stripe_step(number: Number, byte: u8) -> VolumeReader
     }
     match number {
         Number::Digits(s) => VolumeReader::One(s as usize, LineReader::Start),
-        Number::Empty => VolumeReader::Unreadable,
-        Number::Bad => VolumeReader::Unreadable,
+        Number::Empty | Number::Bad => VolumeReader::Unreadable,
     }
 }
 
@@ -173,12 +172,10 @@ fn first_step(word: Word, number: Number, byte: u8) -> VolumeReader
         return VolumeReader::First(word, extended(number, byte));
     }
     match word {
-        Word::Show => VolumeReader::Unreadable,
-        Word::Read => VolumeReader::Unreadable,
+        Word::Show | Word::Read => VolumeReader::Unreadable,
         Word::Swap => match number {
             Number::Digits(c) => VolumeReader::Block(narrow(c), Number::Empty),
-            Number::Empty => VolumeReader::Unreadable,
-            Number::Bad => VolumeReader::Unreadable,
+            Number::Empty | Number::Bad => VolumeReader::Unreadable,
         },
     }
 }
@@ -195,8 +192,7 @@ fn block_step(c: u8, number: Number, byte: u8) -> VolumeReader
             let line = LineReader::Value(Target::Swap(c, 0), Hex::Whole, 0);
             VolumeReader::Value(c, b as usize, line)
         }
-        Number::Empty => VolumeReader::Unreadable,
-        Number::Bad => VolumeReader::Unreadable,
+        Number::Empty | Number::Bad => VolumeReader::Unreadable,
     }
 }
 
@@ -209,51 +205,25 @@ fn with_number(word: Word, number: Number) -> VolumeLine
             Word::Read => VolumeLine::ReadBlock(n as usize),
             Word::Swap => VolumeLine::Unreadable,
         },
-        Number::Empty => VolumeLine::Unreadable,
-        Number::Bad => VolumeLine::Unreadable,
+        Number::Empty | Number::Bad => VolumeLine::Unreadable,
     }
 }
 
 // Whether a call is one of every stripe.
-fn is_stop(op: ClientCall) -> bool
-    ensures { result ≡ is_stop op }
-{
-    match op {
-        ClientCall::Drop => false,
-        ClientCall::Sweep => false,
-        ClientCall::Stop => true,
-        ClientCall::Lock => false,
-        ClientCall::Weaken => false,
-        ClientCall::Tighten => false,
-        ClientCall::Write => false,
-        ClientCall::Settle => false,
-        ClientCall::Unlock => false,
-        ClientCall::Quit => false,
-    }
-}
-
 fn is_of_each(call: Call) -> bool
     ensures { (value : List ℕ) → result ≡ is_of_each (call_of call value) }
 {
-    match call {
-        Call::Read(_) => false,
-        Call::Pick(_) => false,
-        Call::Step(step) => match step {
-            StepCall::Swap(_, _) => false,
-            StepCall::Fail(_) => true,
-            StepCall::Due(_) => false,
-            StepCall::Tick => false,
-            StepCall::At(_, _, _) => false,
-            StepCall::By(op, _) => is_stop(op),
-        },
-    }
+    matches!(
+        call,
+        Call::Step(StepCall::Fail(_) | StepCall::By(ClientCall::Stop, _))
+    )
 }
 
 // A call of stripe s; those of every stripe have words of their own.
-fn one(s: usize, line: Line) -> VolumeLine
+fn one(s: usize, line: Option<Line>) -> VolumeLine
     ensures { (value : List ℕ) → line_told result value ≡ of_one s (call_in line value) }
 {
-    let Line::Play(call, count) = line else {
+    let Some(Line { call, count }) = line else {
         return VolumeLine::Unreadable;
     };
     if is_of_each(call) {
@@ -263,31 +233,25 @@ fn one(s: usize, line: Line) -> VolumeLine
     }
 }
 
-fn each(line: Line) -> VolumeLine
+fn each(line: Option<Line>) -> VolumeLine
     ensures { (value : List ℕ) → line_told result value ≡ of_each (call_in line value) }
 {
     match line {
-        Line::Unreadable => VolumeLine::Unreadable,
-        Line::Play(call, count) => VolumeLine::Each(call, count),
+        Some(Line { call, count }) => VolumeLine::Each(call, count),
+        None => VolumeLine::Unreadable,
     }
 }
 
-fn swap(c: u8, b: usize, line: Line) -> VolumeLine
+fn swap(c: u8, b: usize, line: Option<Line>) -> VolumeLine
     ensures { (value : List ℕ) → line_told result value ≡ with_bytes c b (call_in line value) }
 {
     match line {
-        Line::Unreadable => VolumeLine::Unreadable,
-        Line::Play(call, count) => match call {
-            Call::Read(_) => VolumeLine::Unreadable,
-            Call::Pick(_) => VolumeLine::Unreadable,
-            Call::Step(step) => match step {
-                StepCall::Swap(_, _) => VolumeLine::SwapBlock(c, b, count),
-                StepCall::Fail(_) => VolumeLine::Unreadable,
-                StepCall::Due(_) => VolumeLine::Unreadable,
-                StepCall::Tick => VolumeLine::Unreadable,
-                StepCall::At(_, _, _) => VolumeLine::Unreadable,
-                StepCall::By(_, _) => VolumeLine::Unreadable,
+        Some(
+            Line {
+                call: Call::Step(StepCall::Swap(_, _)),
+                count,
             },
-        },
+        ) => VolumeLine::SwapBlock(c, b, count),
+        _ => VolumeLine::Unreadable,
     }
 }

@@ -3,7 +3,7 @@ use mathlib.Core.Path.{refl}
 use borrow.Author.Tests.{ne_eqb}
 use Rattle.script.specs.Reading.{goes_on, after_first, number_from, clipped_from, bytes_from}
 use Rattle.script.proofs.Reading.{at-space, at_other}
-use Rattle.script.proofs.Clips.{no-first}
+use Rattle.script.proofs.Clips.{either, no-first}
 use Rattle.script.proofs.reader.first_step.Goals as goal
 
 pub returns-then-byte-ne-SPACE : goal.returns-then-byte-ne-SPACE
@@ -20,8 +20,5 @@ returns-else-letter-eq78 c = λ value. at-space refl c.if-byte-ne-SPACE.false (�
 
 pub returns-in-Empty : goal.returns-in-Empty
 unfolding goes_on number_from
-returns-in-Empty c = λ value. at-space refl c.if-byte-ne-SPACE.false (λ p ps. rw (c.in-Empty.is, no-first))
-
-pub returns-in-Bad : goal.returns-in-Bad
-unfolding goes_on number_from
-returns-in-Bad c = λ value. at-space refl c.if-byte-ne-SPACE.false (λ p ps. rw (c.in-Bad.is, no-first))
+returns-in-Empty c =
+    λ value. at-space refl c.if-byte-ne-SPACE.false (λ p ps. either c.in-Empty.is (λ e. rw (e, no-first)) (λ e. rw (e, no-first)))

@@ -3,7 +3,7 @@ use mathlib.Core.Path.{refl, sym}
 use borrow.Author.Tests.{ne_eqb}
 use Rattle.script.specs.Reading.{goes_on, after_second, number_from, clipped_from, bytes_from}
 use Rattle.script.proofs.Reading.{at-space, at_other}
-use Rattle.script.proofs.Clips.{last_none, no_second}
+use Rattle.script.proofs.Clips.{either, last_none, no_second}
 use Rattle.script.proofs.reader.second_step.Goals as goal
 
 pub returns-then-byte-ne-SPACE : goal.returns-then-byte-ne-SPACE
@@ -20,8 +20,5 @@ returns-else-letter-eq83 c = λ value. at-space refl c.if-byte-ne-SPACE.false (�
 
 pub returns-in-Empty : goal.returns-in-Empty
 unfolding goes_on number_from
-returns-in-Empty c = λ value. at-space refl c.if-byte-ne-SPACE.false (λ p ps. rw (c.in-Empty.is, no_second))
-
-pub returns-in-Bad : goal.returns-in-Bad
-unfolding goes_on number_from
-returns-in-Bad c = λ value. at-space refl c.if-byte-ne-SPACE.false (λ p ps. rw (c.in-Bad.is, no_second))
+returns-in-Empty c =
+    λ value. at-space refl c.if-byte-ne-SPACE.false (λ p ps. either c.in-Empty.is (λ e. rw (e, no_second)) (λ e. rw (e, no_second)))

@@ -1,6 +1,5 @@
 -- `script::reader::value_step` meets its contract. Assumes nothing.
 use mathlib.Core.Path.{refl}
-use borrow.Author.Tests.{lt-ltb, le-ltb}
 use Rattle.script.specs.Lines.{bytes_of}
 use Rattle.script.specs.Reading.{goes_on, bytes_from}
 use Rattle.script.proofs.Reading.{at-space, at_other}
@@ -11,9 +10,9 @@ pub returns-then-byte-eq-SPACE : goal.returns-then-byte-eq-SPACE
 unfolding goes_on
 returns-then-byte-eq-SPACE c = at-space refl c.if-byte-eq-SPACE.true (λ p ps. refl)
 
-pub returns-then-next-ge256 : goal.returns-then-next-ge256
+pub returns-in-None : goal.returns-in-None
 unfolding goes_on bytes_from bytes_of
-returns-then-next-ge256 c = at_other refl c.if-byte-eq-SPACE.false (λ p ps. rw (c.in-Half.is, c.hex_byte-next.ensures, le-ltb _ 256 c.if-next-ge256.true))
+returns-in-None c = at_other refl c.if-byte-eq-SPACE.false (λ p ps. rw (c.in-Half.is, rw c.in-None.is at c.hex_byte.ensures))
 
 pub returns-in-Whole : goal.returns-in-Whole
 unfolding goes_on bytes_from bytes_of
@@ -23,6 +22,8 @@ pub returns-in-Bad : goal.returns-in-Bad
 unfolding goes_on bytes_from
 returns-in-Bad c = at_other refl c.if-byte-eq-SPACE.false (λ p ps. rw c.in-Bad.is)
 
-pub returns-else-next-ge256 : goal.returns-else-next-ge256
+pub returns-in-Some : goal.returns-in-Some
 unfolding goes_on bytes_from bytes_of
-returns-else-next-ge256 c = at_other c.store-counted.ensures.room c.if-byte-eq-SPACE.false (λ p ps. rw (c.in-Half.is, c.hex_byte-next.ensures, lt-ltb _ 256 c.if-next-ge256.false, stored-value c.store-counted.ensures (bytes_of p)))
+returns-in-Some c =
+    at_other c.store.ensures.room c.if-byte-eq-SPACE.false
+    (λ p ps. rw (c.in-Half.is, rw c.in-Some.is at c.hex_byte.ensures, stored-value c.store.ensures (bytes_of p)))

@@ -8,13 +8,13 @@ pub returns-in-71 : goal.returns-in-71
 returns-in-71 c = λ value. rw c.in-71.is (c.by-in-71.ensures value)
 
 pub returns-in-82 : goal.returns-in-82
-returns-in-82 c = λ value. rw c.in-82.is
+returns-in-82 c = λ value. rw c.in-82.is (c.alone.ensures value)
 
 pub returns-in-76 : goal.returns-in-76
 returns-in-76 c = λ value. rw c.in-76.is (c.by-in-76.ensures value)
 
 pub returns-in-80 : goal.returns-in-80
-returns-in-80 c = λ value. rw c.in-80.is
+returns-in-80 c = λ value. rw c.in-80.is (c.alone-in-80.ensures value)
 
 pub returns-in-79 : goal.returns-in-79
 returns-in-79 c = λ value. rw c.in-79.is (c.by-in-79.ensures value)
@@ -38,4 +38,4 @@ pub returns-in-67 : goal.returns-in-67
 returns-in-67 c = λ value. rw c.in-67.is (c.by-in-67.ensures value)
 
 pub returns-in-90 : goal.returns-in-90
-returns-in-90 c = λ value. rw c.in-90.is
+returns-in-90 c = λ value. rw c.in-90.is (c.alone-in-90.ensures value)

@@ -2,6 +2,6 @@
 use Rattle.script.specs.Lines.{hex}
 use Rattle.script.proofs.writer.put_shown.Goals as goal
 
-pub returns-in-Byte : goal.returns-in-Byte
+pub returns-in-Some : goal.returns-in-Some
 unfolding hex
-returns-in-Byte c = rw c.in-Byte.is (rw (c.hex.ensures, c.hex-in-Byte.ensures) at c.put-in-Byte.ensures)
+returns-in-Some c = rw c.in-Some.is (rw (c.hex.ensures, c.hex-in-Some.ensures) at c.put-in-Some.ensures)

@@ -34,4 +34,4 @@ loop-i-preserved c =
     )
 
 pub returns-clause-feeds : goal.returns-clause-feeds
-returns-clause-feeds c = let inv = c.loop-i.invariant in rw c.kept-after.ensures (fed-all (take_all _ _ c.loop-i-test.false) inv.3 inv.4)
+returns-clause-feeds c = let inv = c.loop-i.invariant in fed-all (take_all _ _ c.loop-i-test.false) inv.3 inv.4

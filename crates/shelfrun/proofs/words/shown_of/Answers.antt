@@ -2,16 +2,10 @@
 use mathlib.Core.Path.{◌∙◌, ap}
 use Rattle.script.specs.Lines.{shown_text}
 use Rattle.shelfrun.specs.Feeding.{byte_in}
-use Rattle.shelfrun.proofs.Turns.{none-shown, one-shown}
+use Rattle.shelfrun.proofs.Turns.{one-shown}
 use Rattle.shelfrun.proofs.words.shown_of.Goals as goal
 
 pub returns-in-Read : goal.returns-in-Read
 returns-in-Read c = let a = c.args in
     rw c.in-Read.is
     (ap shown_text (c.byte_of.ensures ∙ ap byte_in c.shown_part.ensures) ∙ one-shown a.answer _ a.blocks.now a.spare.now)
-
-pub returns-in-Pick : goal.returns-in-Pick
-returns-in-Pick c = rw c.in-Pick.is (none-shown c.args.answer)
-
-pub returns-in-Step : goal.returns-in-Step
-returns-in-Step c = rw c.in-Step.is (none-shown c.args.answer)

@@ -2,4 +2,4 @@
 use Rattle.shelfrun.proofs.words.words_of.Goals as goal
 
 pub returns : goal.returns
-returns c value = record { event-of = c.event_in-event.ensures value _ _; byte_read = c.shown_of-shown.ensures }
+returns c value = record { event-of = c.event_in.ensures value _ _; byte_read = c.shown_of.ensures }

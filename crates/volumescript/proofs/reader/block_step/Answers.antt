@@ -4,6 +4,7 @@ use lib.ListN.{length}
 use Rattle.script.specs.Lines.{bytes_of}
 use Rattle.script.specs.Reading.{bytes_from, clipped_from, number_from, value_from}
 use Rattle.script.specs.Reading as script
+use Rattle.script.proofs.Clips.{either}
 use Rattle.volumescript.specs.Reading.{after_block, goes_on}
 use Rattle.volumescript.proofs.Clips.{no_line, swap-value}
 use Rattle.volumescript.proofs.Reading.{at-space, at_other}
@@ -20,8 +21,4 @@ returns-in-Digits c =
 
 pub returns-in-Empty : goal.returns-in-Empty
 unfolding goes_on after_block number_from
-returns-in-Empty c = λ value. at-space c.if-byte-ne-SPACE.false (λ p ps. rw (c.in-Empty.is, no_line))
-
-pub returns-in-Bad : goal.returns-in-Bad
-unfolding goes_on after_block number_from
-returns-in-Bad c = λ value. at-space c.if-byte-ne-SPACE.false (λ p ps. rw (c.in-Bad.is, no_line))
+returns-in-Empty c = λ value. at-space c.if-byte-ne-SPACE.false (λ p ps. either c.in-Empty.is (λ e. rw (e, no_line)) (λ e. rw (e, no_line)))

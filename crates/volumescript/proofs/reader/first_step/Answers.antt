@@ -1,5 +1,6 @@
 -- `volumescript::reader::first_step` meets its contract. Assumes nothing.
 use Rattle.script.specs.Reading.{clipped_from, number_from}
+use Rattle.script.proofs.Clips.{either}
 use Rattle.volumescript.specs.Reading.{after_number, goes_on}
 use Rattle.volumescript.proofs.Clips.{no-client}
 use Rattle.volumescript.proofs.Reading.{at-space, at_other}
@@ -11,11 +12,7 @@ returns-then-byte-ne-SPACE c = λ value. at_other c.if-byte-ne-SPACE.true (λ p 
 
 pub returns-in-Show : goal.returns-in-Show
 unfolding goes_on after_number
-returns-in-Show c = λ value. at-space c.if-byte-ne-SPACE.false (λ p ps. rw c.in-Show.is)
-
-pub returns-in-Read : goal.returns-in-Read
-unfolding goes_on after_number
-returns-in-Read c = λ value. at-space c.if-byte-ne-SPACE.false (λ p ps. rw c.in-Read.is)
+returns-in-Show c = λ value. at-space c.if-byte-ne-SPACE.false (λ p ps. either c.in-Show.is (λ e. rw e) (λ e. rw e))
 
 pub returns-in-Digits : goal.returns-in-Digits
 unfolding goes_on after_number number_from clipped_from
@@ -23,8 +20,5 @@ returns-in-Digits c = λ value. at-space c.if-byte-ne-SPACE.false (λ p ps. rw (
 
 pub returns-in-Empty : goal.returns-in-Empty
 unfolding goes_on after_number number_from
-returns-in-Empty c = λ value. at-space c.if-byte-ne-SPACE.false (λ p ps. rw (c.in-Swap.is, c.in-Empty.is, no-client))
-
-pub returns-in-Bad : goal.returns-in-Bad
-unfolding goes_on after_number number_from
-returns-in-Bad c = λ value. at-space c.if-byte-ne-SPACE.false (λ p ps. rw (c.in-Swap.is, c.in-Bad.is, no-client))
+returns-in-Empty c =
+    λ value. at-space c.if-byte-ne-SPACE.false (λ p ps. rw c.in-Swap.is (either c.in-Empty.is (λ e. rw (e, no-client)) (λ e. rw (e, no-client))))

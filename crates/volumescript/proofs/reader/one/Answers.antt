@@ -7,7 +7,7 @@ pub returns-in_default : goal.returns-in_default
 returns-in_default c = λ value. rw c.in_default.is
 
 pub returns-then-is_of_each : goal.returns-then-is_of_each
-returns-then-is_of_each c = λ value. rw (c.in-Play.is, sym (c.is_of_each.ensures (kept c.in-Play.count value)) ∙ c.if-is_of_each.true)
+returns-then-is_of_each c = λ value. rw (c.in-Some.is, sym (c.is_of_each.ensures (kept c.in-Some.field-0.count value)) ∙ c.if-is_of_each.true)
 
 pub returns-else-is_of_each : goal.returns-else-is_of_each
-returns-else-is_of_each c = λ value. rw (c.in-Play.is, sym (c.is_of_each.ensures (kept c.in-Play.count value)) ∙ c.if-is_of_each.false)
+returns-else-is_of_each c = λ value. rw (c.in-Some.is, sym (c.is_of_each.ensures (kept c.in-Some.field-0.count value)) ∙ c.if-is_of_each.false)

@@ -1,6 +1,7 @@
 -- `volumescript::reader::stripe_step` meets its contract. Assumes nothing.
 use Rattle.script.specs.Reading.{clipped_from, number_from}
 use Rattle.script.specs.Reading as script
+use Rattle.script.proofs.Clips.{either}
 use Rattle.volumescript.specs.Reading.{goes_on}
 use Rattle.volumescript.proofs.Reading.{at-space, at_other}
 use Rattle.volumescript.proofs.reader.stripe_step.Goals as goal
@@ -15,8 +16,4 @@ returns-in-Digits c = λ value. at-space c.if-byte-ne-SPACE.false (λ p ps. rw c
 
 pub returns-in-Empty : goal.returns-in-Empty
 unfolding goes_on number_from
-returns-in-Empty c = λ value. at-space c.if-byte-ne-SPACE.false (λ p ps. rw c.in-Empty.is)
-
-pub returns-in-Bad : goal.returns-in-Bad
-unfolding goes_on number_from
-returns-in-Bad c = λ value. at-space c.if-byte-ne-SPACE.false (λ p ps. rw c.in-Bad.is)
+returns-in-Empty c = λ value. at-space c.if-byte-ne-SPACE.false (λ p ps. either c.in-Empty.is (λ e. rw e) (λ e. rw e))

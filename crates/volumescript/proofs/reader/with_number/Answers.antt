@@ -1,5 +1,6 @@
 -- By cases of the number and the word. Assumes nothing.
 use Rattle.script.specs.Reading.{clipped_from, number_from}
+use Rattle.script.proofs.Clips.{either}
 use Rattle.volumescript.specs.Reading.{after_number}
 use Rattle.volumescript.proofs.Clips.{no_number}
 use Rattle.volumescript.proofs.reader.with_number.Goals as goal
@@ -18,8 +19,4 @@ returns-in-Swap c = λ value room. rw (c.in-Digits.is, c.in-Swap.is)
 
 pub returns-in-Empty : goal.returns-in-Empty
 unfolding number_from
-returns-in-Empty c = λ value room. rw (c.in-Empty.is, no_number)
-
-pub returns-in-Bad : goal.returns-in-Bad
-unfolding number_from
-returns-in-Bad c = λ value room. rw (c.in-Bad.is, no_number)
+returns-in-Empty c = λ value room. either c.in-Empty.is (λ e. rw (e, no_number)) (λ e. rw (e, no_number))

@@ -4,16 +4,13 @@ use mathlib.Core.List.{append-nil}
 use lib.ListN.{length}
 use Rattle.script.specs.Lines.{line_of, call_by, bytes_of}
 use Rattle.script.specs.Reading.{goes_on, after_first, after_second, number_from, clipped_from, bytes_from}
-use Rattle.script.proofs.Clips.{clip-kept, clip-none, no_value}
+use Rattle.script.proofs.Clips.{either, clip-kept, clip-none, no_value}
 use Rattle.script.proofs.reader.LineReader.finish.Goals as goal
 
 pub returns-in-Unreadable : goal.returns-in-Unreadable
-unfolding goes_on
-returns-in-Unreadable c = rw c.in-Unreadable.is record { tells = λ value. refl }
-
-pub returns-in-Start : goal.returns-in-Start
 unfolding goes_on line_of
-returns-in-Start c = rw c.in-Start.is record { tells = λ value. refl }
+returns-in-Unreadable c =
+    either c.in-Unreadable.is (λ e. rw e record { tells = λ value. refl }) (λ e. rw e record { tells = λ value. refl })
 
 pub returns-in-Letter : goal.returns-in-Letter
 unfolding goes_on line_of call_by
@@ -26,11 +23,8 @@ returns-in-Digits c = rw c.in-First.is record { tells = λ value. rw c.in-Digits
 
 pub returns-in-Empty : goal.returns-in-Empty
 unfolding goes_on after_first number_from
-returns-in-Empty c = rw c.in-First.is record { tells = λ value. rw c.in-Empty.is }
-
-pub returns-in-Bad : goal.returns-in-Bad
-unfolding goes_on after_first number_from
-returns-in-Bad c = rw c.in-First.is record { tells = λ value. rw c.in-Bad.is }
+returns-in-Empty c =
+    rw c.in-First.is record { tells = λ value. either c.in-Empty.is (λ e. rw e) (λ e. rw e) }
 
 pub returns-in-Digits-second : goal.returns-in-Digits-second
 unfolding goes_on after_second number_from clipped_from
@@ -38,11 +32,8 @@ returns-in-Digits-second c = rw c.in-Second.is record { tells = λ value. rw c.i
 
 pub returns-in-Empty-second : goal.returns-in-Empty-second
 unfolding goes_on after_second number_from
-returns-in-Empty-second c = rw c.in-Second.is record { tells = λ value. rw c.in-Empty-second.is }
-
-pub returns-in-Bad-second : goal.returns-in-Bad-second
-unfolding goes_on after_second number_from
-returns-in-Bad-second c = rw c.in-Second.is record { tells = λ value. rw c.in-Bad-second.is }
+returns-in-Empty-second c =
+    rw c.in-Second.is record { tells = λ value. either c.in-Empty-second.is (λ e. rw e) (λ e. rw e) }
 
 pub returns-in-Whole : goal.returns-in-Whole
 unfolding goes_on bytes_from bytes_of
@@ -50,8 +41,5 @@ returns-in-Whole c = rw c.in-Value.is record { tells = λ value. rw (c.in-Whole.
 
 pub returns-in-Half : goal.returns-in-Half
 unfolding goes_on bytes_from bytes_of
-returns-in-Half c = rw c.in-Value.is record { tells = λ value. rw (c.in-Half.is, no_value) }
-
-pub returns-in-Bad-hex : goal.returns-in-Bad-hex
-unfolding goes_on bytes_from
-returns-in-Bad-hex c = rw c.in-Value.is record { tells = λ value. rw (c.in-Bad-hex.is, no_value) }
+returns-in-Half c =
+    rw c.in-Value.is record { tells = λ value. either c.in-Half.is (λ e. rw (e.1, no_value)) (λ e. rw (e, no_value)) }

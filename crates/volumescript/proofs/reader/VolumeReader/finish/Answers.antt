@@ -1,38 +1,25 @@
 -- `volumescript::reader::VolumeReader::finish` meets its contract. Assumes nothing.
 use mathlib.Core.Path.{refl, ap, ◌∙◌}
 use Rattle.script.specs.Lines.{line_of, numeral}
+use Rattle.script.proofs.Clips.{either}
 use Rattle.volumescript.specs.Lines.{by_word, line_in, of_each, of_one}
 use Rattle.volumescript.specs.Reading.{after_block, goes_on, with_bytes}
 use Rattle.volumescript.proofs.Clips.{letter-alone, no_call, word-alone}
 use Rattle.volumescript.proofs.reader.VolumeReader.finish.Goals as goal
 
 pub returns-in-Unreadable : goal.returns-in-Unreadable
-unfolding goes_on
-returns-in-Unreadable c = rw c.in-Unreadable.is record { tells = λ value. refl }
-
-pub returns-in-Start : goal.returns-in-Start
-unfolding goes_on line_in numeral by_word
-returns-in-Start c = rw c.in-Start.is record { tells = λ value. refl }
-
-pub returns-in-Letter : goal.returns-in-Letter
-unfolding goes_on
-returns-in-Letter c = rw c.in-Letter.is record { tells = λ value. rw letter-alone }
-
-pub returns-in-Word : goal.returns-in-Word
-unfolding goes_on
-returns-in-Word c = rw c.in-Word.is record { tells = λ value. rw word-alone }
-
-pub returns-in-Stripe : goal.returns-in-Stripe
-unfolding goes_on line_of
-returns-in-Stripe c = rw c.in-Stripe.is record { tells = λ value. rw no_call }
+unfolding goes_on line_in numeral by_word line_of after_block
+returns-in-Unreadable c =
+    either c.in-Unreadable.is (λ e. rw e record { tells = λ value. refl })
+    (λ start. either start (λ e. rw e record { tells = λ value. refl })
+    (λ letter. either letter (λ e. rw e.1 record { tells = λ value. rw letter-alone })
+    (λ word. either word (λ e. rw e.1 record { tells = λ value. rw word-alone })
+    (λ stripe. either stripe (λ e. rw e.1 record { tells = λ value. rw no_call })
+    (λ block. rw block.2 record { tells = λ value. refl })))))
 
 pub returns-in-First : goal.returns-in-First
 unfolding goes_on
 returns-in-First c = rw c.in-First.is record { tells = λ value. c.with_number.ensures value _ }
-
-pub returns-in-Block : goal.returns-in-Block
-unfolding goes_on after_block
-returns-in-Block c = rw c.in-Block.is record { tells = λ value. refl }
 
 pub returns-in-One : goal.returns-in-One
 unfolding goes_on

@@ -6,7 +6,7 @@ use Rattle.machine.specs.Calls.{Call}
 use Rattle.calls.specs.Calls.{call_of}
 use Rattle.script.specs.Lines.{is_shelf_line, shelf_line}
 use Rattle.script.specs.Reading.{kept}
-use Rattle.script.proofs.reader.Line.in_shelfrun.Goals as goal
+use Rattle.script.proofs.reader.in_shelfrun.Goals as goal
 
 module _ (x : Call) {test : Bool} (e : test ≡ is_shelf_line x) where
   readable : test ≡ true → some x ≡ shelf_line (some x)
@@ -15,13 +15,14 @@ module _ (x : Call) {test : Bool} (e : test ≡ is_shelf_line x) where
   unreadable : test ≡ false → none ≡ shelf_line (some x)
   unreadable f = ap (λ (b : Bool). cond b (some x) none) (sym f ∙ e)
 
-pub returns-in-Unreadable : goal.returns-in-Unreadable
-returns-in-Unreadable c value = rw c.in-Unreadable.is
-
 pub returns-then-is_shelf_line : goal.returns-then-is_shelf_line
-returns-then-is_shelf_line c value = let bytes = kept c.in-Play.count value in
-    rw c.in-Play.is (readable (call_of c.in-Play.call bytes) (c.is_shelf_line.ensures bytes) c.if-is_shelf_line.true)
+returns-then-is_shelf_line c value =
+    let line = c.in_ok-line.line in
+    let bytes = kept line.count value in
+    rw c.in_ok-line.was (readable (call_of line.call bytes) (c.is_shelf_line.ensures bytes) c.if-is_shelf_line.true)
 
 pub returns-else-is_shelf_line : goal.returns-else-is_shelf_line
-returns-else-is_shelf_line c value = let bytes = kept c.in-Play.count value in
-    rw c.in-Play.is (unreadable (call_of c.in-Play.call bytes) (c.is_shelf_line.ensures bytes) c.if-is_shelf_line.false)
+returns-else-is_shelf_line c value =
+    let line = c.in_ok-line.line in
+    let bytes = kept line.count value in
+    rw c.in_ok-line.was (unreadable (call_of line.call bytes) (c.is_shelf_line.ensures bytes) c.if-is_shelf_line.false)
