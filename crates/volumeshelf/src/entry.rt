@@ -7,7 +7,7 @@ use records::{ClientRecord, NodeRecord};
 use routing::{ReadRequest, Request, SizedRead, VolumeCall};
 use tables::Volume;
 
-// The call on the tables' parts of its stripe.
+// The call on the tables' parts of its stripe. They are cut here by their ranges: a function that lends a part for writing had no proof by the check.
 #[inline(always)]
 fn on_stripe(
     nodes: &mut [NodeRecord],
