@@ -43,7 +43,13 @@ fn put_returned<'a, W: Write>(
     match order {
         Order::Image => put_image(out, z, played.stripe, blocks, spare, differences),
         Order::Call(line) => {
-            let shown = shown_part(played.answer, z.b, position(line).unwrap_or(0) as usize, blocks, spare);
+            let shown = shown_part(
+                played.answer,
+                z.b,
+                position(line).unwrap_or(0) as usize,
+                blocks,
+                spare,
+            );
             put_answer(
                 out,
                 z.m,
