@@ -37,13 +37,15 @@ fn play_lines<R: Read, W: Write>(input: &mut Input<R>, out: &mut W, volume: Volu
     let mut differences = [0x55u8; DIFFERENCES];
     let mut value = [0u8; VALUE + 1];
     let lengths = volume.lengths();
+    let of_nodes = lengths.blocks;
+    let of_clients = lengths.differences;
     entry::play(
         input,
         out,
         volume,
-        &mut blocks[..lengths.blocks],
-        &mut spare[..lengths.blocks],
-        &mut differences[..lengths.differences],
+        &mut blocks[0..of_nodes],
+        &mut spare[0..of_nodes],
+        &mut differences[0..of_clients],
         &mut value,
     )
 }
