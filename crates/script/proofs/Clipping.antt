@@ -3,6 +3,7 @@ use mathlib.Core.Path.{◌≡◌, refl, sym, ap, ◌∙◌}
 use mathlib.Core.Bool.{Bool, true, false, cond, ◌&&◌, ◌||◌, not}
 use mathlib.Core.List.{List, [], ◌∷◌}
 use mathlib.Core.Option.{Option, none, some}
+use Rattle.std.specs.Prelude.{Option as CodeOption, Some}
 use Prim.Native.Nat.{ℕ, zero, suc, ◌≤◌, ◌<◌}
 use native.Mathlib.Decide.{dec_le}
 use native.Mathlib.Omega.{arith}
@@ -123,7 +124,7 @@ module _ (z : Sizes) (s : Stripe) where
   first-tests false range s rest e = rw e
 
   -- of a swap and an add, whose tests past the first are a chain
-  first-chain : (test : Bool) (tests : Option Refusal) (l : Local) (effect : Outcome Local) → tests ≡ some OutOfRange
+  first-chain : (test : Bool) (tests : CodeOption Refusal) (l : Local) (effect : Outcome Local) → tests ≡ Some OutOfRange
       → guard test OutOfLimits l (Writing.unless tests l effect) ≡ denied test l
   unfolding guard denied
   first-chain true tests l effect e = refl
