@@ -20,6 +20,14 @@ def at(file, text, position):
     return f'{file.relative_to(TOP)}:{text.count(chr(10), 0, position) + 1}'
 
 
+def lines(pattern):
+    """Each place in the sources that fits the pattern, with its match."""
+    for file in FILES:
+        text = text_of(file)
+        for m in re.finditer(pattern, text, re.M):
+            yield at(file, text, m.start()), m
+
+
 def blocks(word):
     """Each item that begins with the word: its file, place, head and body."""
     for file in FILES:
@@ -73,10 +81,8 @@ def point1():
         flags = re.findall(r'(\w+): bool', body)
         if flags:
             yield place, f'struct {name}: {", ".join(flags)}'
-    for file in FILES:
-        text = text_of(file)
-        for m in re.finditer(r'^ *// .*\b(?:or 0|0 if|0 of|0 where|of none 0|else 0|256 if|other byte 16|; 0)\b.*$', text, re.M):
-            yield at(file, text, m.start()), m.group(0).strip()
+    for place, m in lines(r'^ *// .*\b(?:or 0|0 if|0 of|0 where|of none 0|else 0|256 if|other byte 16|; 0)\b.*$'):
+        yield place, m.group(0).strip()
 
 
 def skeleton(body):
@@ -98,10 +104,8 @@ def point2():
 
 def point3():
     """`while`, and `for` over a range of numbers."""
-    for file in FILES:
-        text = text_of(file)
-        for m in re.finditer(r'^ *(while .*|for \w+ in [^{]*\.\..*)\{', text, re.M):
-            yield at(file, text, m.start()), m.group(1).strip()
+    for place, m in lines(r'^ *(while .*|for \w+ in [^{]*\.\..*)\{'):
+        yield place, m.group(1).strip()
 
 
 def point4():
@@ -111,10 +115,8 @@ def point4():
         flat = [a for a in arms if re.fullmatch(r"true|false|\d+|b'.'|\w+::\w+|.*b\".*\"\)", a.strip())]
         if body.count('match ') == 1 and len(arms) >= 2 and len(flat) == len(arms):
             yield place, f'fn {name}: {len(arms)} arms'
-    for file in FILES:
-        text = text_of(file)
-        for m in re.finditer(r'^ +(\w+): \1,$', text, re.M):
-            yield at(file, text, m.start()), m.group(0).strip()
+    for place, m in lines(r'^ +(\w+): \1,$'):
+        yield place, m.group(0).strip()
 
 
 def point5():
@@ -150,10 +152,8 @@ def point6():
 
 def point7():
     """Enums that choose a test or a change, and their functions."""
-    for file in FILES:
-        text = text_of(file)
-        for m in re.finditer(r'^ *(?:pub )?enum (\w*(?:Test|Change|Work))\b|fn \w+\([^)]*: (?:EntryTest|IdTest|NodeTest|EntryChange)\b[^)]*\)', text, re.M):
-            yield at(file, text, m.start()), m.group(0).strip()
+    for place, m in lines(r'^ *(?:pub )?enum (\w*(?:Test|Change|Work))\b|fn \w+\([^)]*: (?:EntryTest|IdTest|NodeTest|EntryChange)\b[^)]*\)'):
+        yield place, m.group(0).strip()
 
 
 def point8():
