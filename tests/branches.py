@@ -22,8 +22,6 @@ FORBIDDEN = {
     "||": "an ||",
 }
 KEYWORDS = {"else", "return", "break", "continue", "true", "false", "bool", "in", "move", "unsafe", "fn", "impl"}
-# methods of the standard library that only move bytes
-MOVES = {"copy_from_slice"}
 SIGNS = set("+-*/%^&|=.,;:()[]{}") | {"::", "<<", ">>", ".."} | {sign + "=" for sign in "+-*/%^&|"}
 
 
@@ -68,8 +66,6 @@ class Walk:
         self.looked_at.append(function)
         reject_branches(function, tokens)
         for call in self.source.calls(function, tokens):
-            if not call.callees and call.name in MOVES:
-                continue
             if not call.callees:
                 raise Rejected(f"{function.file}:{call.line}: {function} calls {call.name}, which is not in the source")
             for callee in call.callees:

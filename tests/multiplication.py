@@ -40,6 +40,7 @@ LOOPS = {
     "kernel::bits::sum_of": "twelve weights times twelve bytes, and their sum, by each bit of the weights",
     "kernel::bits::sixteen": "each of sixteen bytes",
     "kernel::bits::fill_sixteens": "each sixteen bytes of a block",
+    "lanes::write": "each of sixteen bytes, copied",
     "coding::weights::span": "each factor of a product, by logarithms",
     "coding::weights::recover_row": "each weight of a lost block, by logarithms",
 }
@@ -115,7 +116,7 @@ pub fn square(a: u8) -> u8 {
 }
 """,
     "crates/tables/src/lib.rt": "pub mod deep;\n\npub fn power(a: u8) -> u8 {\n    deep::entry::<2>(a)[0]\n}\n",
-    "crates/tables/src/deep.rt": "pub fn entry<const N: usize>(a: u8) -> [u8; N] {\n    let mut t = [0; N];\n    t.copy_from_slice(&[0, a * 2]);\n    t\n}\n",
+    "crates/tables/src/deep.rt": "pub fn entry<const N: usize>(a: u8) -> [u8; 2] {\n    [0, a * 2]\n}\n",
 }
 BODY, LOOP, DEEP = "let p = Pair { iffy: a };", "t[i] = product(a, t[i]);", "a * 2"
 # a line of the source, what it becomes, and what must be said of it
@@ -134,6 +135,7 @@ WRONG = [
     (DEEP, "power(a)", "which is not in the source"),
     (DEEP, "crate::power(a)", "calls itself"),
     (DEEP, "a.min(2)", "which is not in the source"),
+    (DEEP, "a.copy_from_slice(a)", "which is not in the source"),
     (DEEP, "far::<2>(a)", "which is not in the source"),
     (DEEP, "a < 2", "a comparison: <"),
     (DEEP, "assert!(a)", "is not arithmetic"),

@@ -6,12 +6,14 @@ ghost use Rattle.blocks.specs.Blocks.{part};
 ghost use Rattle.basics.specs.Lists.{list_of};
 ghost use Rattle.lanes.specs.Lanes.{lane, chosen};
 
-// The sixteen bytes into out.
+// The sixteen bytes into out. (By a loop, into which the test of multiplications can look; the machine moves them at once.)
 pub fn write(out: &mut [u8], bytes: [u8; 16])
     requires { length out.old ≡ 16 }
     ensures { out.new ≡ bytes }
 {
-    out.copy_from_slice(&bytes);
+    for l in 0..16 {
+        out[l] = bytes[l];
+    }
 }
 
 // The n bytes of t from a on, but no more than 16, and zeros after them.
