@@ -29,7 +29,8 @@ MULTIPLICATIONS = {
     "blocks::doublings::Doublings::of": "a factor made ready for many",
     "blocks::doublings::Doublings::times": "by the bits of the other factor",
     "kernel::plan::pack": "the bits of four weights, made ready",
-    "kernel::bits::step": "a sum doubled, and what one bit of twelve weights adds",
+    "kernel::bits::Eight::sum": "twelve weights times twelve bytes, and their sum, by the bits of the weights",
+    "kernel::bits::One::sum": "the same, by weights of one bit",
     "coding::weights::over": "a quotient, by logarithms",
 }
 
@@ -37,7 +38,6 @@ MULTIPLICATIONS = {
 LOOPS = {
     "blocks::add_times": "each byte of a block",
     "kernel::plan::pack_all": "each four weights",
-    "kernel::bits::sum_of": "twelve weights times twelve bytes, and their sum, by each bit of the weights",
     "kernel::bits::sixteen": "each of sixteen bytes",
     "kernel::bits::fill_sixteens": "each sixteen bytes of a block",
     "lanes::write": "each of sixteen bytes, copied",
@@ -92,12 +92,47 @@ pub fn product(a: u8, b: u8) -> u8
     ensures same { {s : ℕ} → s == s }
 {
     let p = Pair { iffy: a };
-    p.sum() ^ inner(a, b)
+    p.sum() ^ inner(a, b) ^ part::<Half>(a)
 }
 
 fn inner(a: u8, b: u8) -> u8 {
     let t = [0u8; 4];
     power(a) ^ t[(b % 4) as usize]
+}
+
+trait Part {
+    ghost by: { ℕ };
+
+    fn of(a: u8) -> u8
+        ensures { result ≡ a / by };
+
+    fn next(a: u8) -> u8 {
+        Self::of(a) + 1
+    }
+}
+
+struct Half;
+
+impl Part for Half {
+    ghost by = { 2 };
+
+    fn of(a: u8) -> u8 {
+        a >> 1
+    }
+}
+
+struct Third<T>(T);
+
+impl<T: Copy> Part for Third<T> {
+    ghost by = { 3 };
+
+    fn of(a: u8) -> u8 {
+        a / 3
+    }
+}
+
+fn part<P: Part>(a: u8) -> u8 {
+    P::next(a)
 }
 
 pub fn each(t: &mut [u8], a: u8) {
@@ -118,6 +153,19 @@ pub fn square(a: u8) -> u8 {
     "crates/tables/src/lib.rt": "pub mod deep;\n\npub fn power(a: u8) -> u8 {\n    deep::entry::<2>(a)[0]\n}\n",
     "crates/tables/src/deep.rt": "pub fn entry<const N: usize>(a: u8) -> [u8; 2] {\n    [0, a * 2]\n}\n",
 }
+# what is looked at of it
+LOOKED_AT = [
+    "small::product",
+    "small::Pair::sum",
+    "small::inner",
+    "tables::power",
+    "tables::deep::entry",
+    "small::part",
+    "small::Part::next",
+    "small::Half::of",
+    "small::Third::of",
+    "small::each",
+]
 BODY, LOOP, DEEP = "let p = Pair { iffy: a };", "t[i] = product(a, t[i]);", "a * 2"
 # a line of the source, what it becomes, and what must be said of it
 WRONG = [
@@ -141,6 +189,11 @@ WRONG = [
     (DEEP, "assert!(a)", "is not arithmetic"),
     (DEEP, "return a;", "is not arithmetic"),
     ("self.iffy ^ 1", "self.iffy < 1", "Pair::sum has a comparison"),  # by a method
+    ("a >> 1", "if a { 1 } else { 2 }", "small::Half::of has an if"),  # by a type parameter
+    ("a / 3", "for i in 0..a {}", "small::Third::of has a loop"),  # by the same, of another type
+    ("Self::of(a) + 1", "a < 1", "small::Part::next has a comparison"),  # by the same, in the trait
+    ("P::next(a)", "P::far(a)", "which is not in the source"),
+    ("<P: Part>", "<P: Default>", "calls P::next, which is not in the source"),  # a trait that is not there
     (LOOP, "if t[i] { t[i] = 0; }", "small::each has an if"),  # in a loop's body
     (LOOP, "while a {}", "has 2 loops"),
     ("pub fn square", "pub fn cube(a: u8) -> u8 { inner(a, a) }\npub fn square", "small::cube calls small::inner and is not looked at"),
@@ -163,7 +216,7 @@ def edited(old, new):
 def reject_all_wrong():
     """Returns how many wrong sources were rejected, each for what is wrong in it."""
     found = [str(function) for function in look_at_small(RIGHT)]
-    if found != ["small::product", "small::Pair::sum", "small::inner", "tables::power", "tables::deep::entry", "small::each"]:
+    if found != LOOKED_AT:
         sys.exit(f"source: of the right source {found} were looked at")
     return reject_all("source", look_at_small, [(new, edited(old, new), reason) for old, new, reason in WRONG])
 

@@ -5,7 +5,7 @@ comments and ghost lines are no code and are left out.
 """
 
 import re
-from dataclasses import dataclass
+from dataclasses import dataclass, field
 from pathlib import Path
 
 TOKEN = re.compile(
@@ -17,6 +17,8 @@ TOKEN = re.compile(
     re.VERBOSE | re.DOTALL,
 )
 CLOSING = {"(": ")", "[": "]", "{": "}"}
+# how many brackets a token opens, of types too
+DEPTH = {**dict.fromkeys("([{<", 1), **dict.fromkeys(")]}>", -1), ">>": -2}
 # words that may stand before "(" and call nothing
 NO_CALL = {"if", "match", "while", "loop", "for", "in", "return", "let", "mut", "as", "else"}
 
@@ -31,10 +33,11 @@ class Token:
 @dataclass(frozen=True)
 class Function:
     path: tuple  # crate, modules, type if it is a method, name
-    is_method: bool  # stands in an impl
+    is_method: bool  # stands in an impl or a trait
     file: str
     line: int
     body: tuple  # the tokens between its braces
+    bounds: dict = field(compare=False)  # of each type parameter the traits that it is bound by, as they are named
 
     def __str__(self):
         return "::".join(self.path)
@@ -44,7 +47,7 @@ class Function:
 class Call:
     name: str  # as it is written
     line: int
-    callees: tuple  # none where the source has no such function; of a method each method of its name
+    callees: tuple  # none where the source has no such function; of a method, also by a type parameter, each method of its name
 
 
 class Unreadable(Exception):
@@ -101,12 +104,65 @@ def without_arguments(tokens):
     return tuple(kept)
 
 
+def split(tokens, sign):
+    """The parts of tokens between the signs that stand in no brackets."""
+    parts, depth = [[]], 0
+    for token in tokens:
+        depth += DEPTH.get(token.text, 0)
+        if token.text == sign and depth == 0:
+            parts.append([])
+        else:
+            parts[-1].append(token)
+    return parts
+
+
+def named(tokens):
+    """The names of a path, without its arguments."""
+    texts = [token.text for token in tokens]
+    return tuple(text for text in texts[: texts.index("<") if "<" in texts else None] if text != "::")
+
+
+def parameters(tokens, at):
+    """Of each type parameter of what may have some at `at` the traits that it is bound by; and the place after them."""
+    if tokens[at].text != "<":
+        return {}, at
+    end, depth = at + 1, 1
+    while depth > 0:
+        depth += DEPTH.get(tokens[end].text, 0)
+        end += 1
+    parts = [part for part in split(tokens[at + 1 : end - 1], ",") if part and part[0].kind == "word" and part[0].text != "const"]
+    return {part[0].text: tuple(named(bound) for bound in split(part[2:], "+")) for part in parts}, end
+
+
+@dataclass(frozen=True)
+class Owner:
+    """What functions stand in: an impl, also of a trait, by its type, or a trait itself."""
+
+    name: str
+    bounds: dict
+    is_trait: bool
+
+    @staticmethod
+    def at(tokens, at):
+        """Of the impl or trait that begins at `at`."""
+        end = next_text(tokens, at, "{")
+        if tokens[at].text == "trait":
+            name = tokens[at + 1].text
+            return Owner(name, {**parameters(tokens, at + 2)[0], "Self": ((name,),)}, True)
+        bounds, start = parameters(tokens, at + 1)
+        texts = [token.text for token in tokens[start:end]]
+        if "for" in texts:
+            start += texts.index("for") + 1
+        return Owner(named(tokens[start:end])[-1], bounds, False)
+
+
 class Source:
     def __init__(self, files):
         self.functions = {}  # by path
         self.methods = {}  # by name
         self.modules = {}  # by path: what its `use` lines name
         self.types = set()
+        self.traits = {}  # by path: the names of its functions
         for file, text in sorted(files.items()):
             _, crate, _, *modules = Path(file).with_suffix("").parts
             if modules in (["lib"], ["main"]):
@@ -133,10 +189,12 @@ class Source:
             elif text in ("struct", "enum"):
                 self.types.add((*module, tokens[at + 1].text))
                 at += 1
-            elif text == "impl":
-                owner = tokens[at + 1].text
-                owner_ends = matching(tokens, next_text(tokens, at, "{"))
+            elif text in ("impl", "trait"):
+                owner = Owner.at(tokens, at)
+                if owner.is_trait:
+                    self.traits[(*module, owner.name)] = set()
                 at = next_text(tokens, at, "{")
+                owner_ends = matching(tokens, at)
             elif text == "fn":
                 at = self._read_function(module, owner, file, tokens, at)
             at += 1
@@ -144,6 +202,11 @@ class Source:
     def _read_function(self, module, owner, file, tokens, at):
         """Returns the place of the last token of the function that starts at `at`."""
         name, line = tokens[at + 1].text, tokens[at].line
+        bounds, at = parameters(tokens, at + 2)
+        if owner:
+            bounds = {**owner.bounds, **bounds}
+            if owner.is_trait:
+                self.traits[(*module, owner.name)].add(name)
         at = matching(tokens, next_text(tokens, at, "(")) + 1
         while tokens[at].text != "{":
             if tokens[at].text == ";":
@@ -154,8 +217,10 @@ class Source:
                 at = matching(tokens, at)
             at += 1
         end = matching(tokens, at)
-        path = (*module, owner, name) if owner else (*module, name)
-        function = Function(path, owner is not None, file, line, without_arguments(tokens[at + 1 : end]))
+        path = (*module, owner.name, name) if owner else (*module, name)
+        function = Function(path, owner is not None, file, line, without_arguments(tokens[at + 1 : end]), bounds)
+        if path in self.functions:
+            raise Unreadable(f"{file}:{line}: {function} stands twice")
         self.functions[path] = function
         if owner:
             self.methods.setdefault(name, []).append(function)
@@ -178,7 +243,7 @@ class Source:
         if head in uses and uses[head] != names[:1]:
             return (*self._absolute(module, owner, uses[head]), *rest)
         here = (*module, head)
-        if here in self.functions or here in self.types or here in self.modules:
+        if here in self.functions or here in self.types or here in self.traits or here in self.modules:
             return (*here, *rest)
         return names
 
@@ -191,6 +256,13 @@ class Source:
                 if path[cut] in self.modules.get(path[:cut], {}) and path[: cut + 1] not in self.modules:
                     path = (*self._absolute(path[:cut], None, path[cut : cut + 1]), *path[cut + 1 :])
                     break
+        return []
+
+    def _by_parameter(self, module, names, bounds):
+        """What names that begin with a type parameter call: each method of the name, where a trait of the source has it."""
+        traits = [self._absolute(module, None, bound) for bound in bounds]
+        if len(names) == 2 and any(names[1] in self.traits.get(trait, ()) for trait in traits):
+            return self.methods.get(names[1], [])
         return []
 
     def calls(self, function, tokens):
@@ -209,6 +281,8 @@ class Source:
                 callees = []
             elif start >= 1 and tokens[start - 1].text == ".":
                 callees = self.methods.get(token.text, [])
+            elif names[0] in function.bounds:
+                callees = self._by_parameter(module, names, function.bounds[names[0]])
             else:
                 callees = self._functions(module, owner, names)
             yield Call("::".join(names), token.line, tuple(callees))

@@ -4,4 +4,4 @@ use Rattle.kernel.specs.Working.{Lowest}
 use Rattle.kernel.proofs.bits.fill_sixteens.Given as goal
 
 abbrev pub invariant-loop-c : goal.invariant-loop-c
-invariant-loop-c g l = Lowest g.row.BITS l.s l.x l.y l.z l.e (length l.initial.out) l.c l.out
+invariant-loop-c g l = Lowest g.W.Bits.many l.s l.x l.y l.z l.e (length l.initial.out) l.c l.out
