@@ -16,11 +16,14 @@ pub fn clear(dst: &mut [u8])
     dst.fill(0);
 }
 
+// (By a loop: LLVM makes memcpy of it, as the two can't overlap; of copy_from_slice it makes memmove.)
 pub fn copy(dst: &mut [u8], src: &[u8])
     requires { length dst.old ≡ length src.now }
     ensures { dst.new ≡ src.now }
 {
-    dst.copy_from_slice(src);
+    for (i, s) in src.iter().enumerate() {
+        dst[i] = *s;
+    }
 }
 
 // The value into the block, and what it differs by from the old block into the difference. (By the place: two slices are written.)

@@ -2,7 +2,7 @@
 #![tactic(auto)]
 
 ghost use Rattle.std.specs.Prelude.{◌≡◌, ◌≤◌};
-ghost use Rattle.code.specs.Calls.{code_number};
+ghost use Rattle.code.specs.Calls.{answer_number, code_number};
 ghost use Rattle.code.specs.Code;
 
 pub mod nodes; // nodes.rt: sets of nodes
@@ -31,6 +31,16 @@ impl CodeRefusal {
             CodeRefusal::TooFew(_) => 11,
             CodeRefusal::NoInverse => 12,
         }
+    }
+}
+
+// The number of an answer: 0 if the call is accepted.
+pub fn number(answer: Result<(), CodeRefusal>) -> u8
+    ensures { result ≡ answer_number answer }
+{
+    match answer {
+        Ok(()) => 0,
+        Err(refusal) => refusal.number(),
     }
 }
 

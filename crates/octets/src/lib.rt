@@ -22,5 +22,5 @@ pub fn put(out: &mut [u8], at: usize, v: &[u8])
     requires { at + length v.now ≤ length out.old }
     ensures { Put out.old at v.now out.new }
 {
-    out[at..at + v.len()].copy_from_slice(v);
+    blocks::copy(&mut out[at..at + v.len()], v);
 }

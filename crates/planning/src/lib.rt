@@ -3,7 +3,7 @@
 
 ghost use Rattle.std.specs.Prelude.{◌≡◌, ◌≤◌, ◌<◌};
 ghost use Rattle.std.proofs.Math.IntN.{sub_ℕ};
-ghost use Rattle.planning.specs.Planning.{redundant_limit, stop_limit, serial_limit, every_at_most, plan_of, refusal_number};
+ghost use Rattle.planning.specs.Planning.{redundant_limit, stop_limit, serial_limit, every_at_most, plan_of, plan_number, refusal_number};
 
 use groups::Groups;
 
@@ -29,6 +29,16 @@ impl PlanRefusal {
         match self {
             PlanRefusal::OutOfLimits => 1,
         }
+    }
+}
+
+// The number of an answer: 0 if there is a plan.
+pub fn number(answer: Result<Planned, PlanRefusal>) -> u8
+    ensures { result ≡ plan_number answer }
+{
+    match answer {
+        Ok(_) => 0,
+        Err(refusal) => refusal.number(),
     }
 }
 

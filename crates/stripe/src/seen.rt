@@ -41,7 +41,8 @@ impl Seen {
         }
     }
 
-    // One node later.
+    // One node later. (Always compiled into its caller: a call of it would copy the record once more.)
+    #[inline(always)]
     pub fn with(self, z: Sizes, c: u8, node: NodeRecord) -> Self
         ensures { result ≡ seen_with z c (node_of node) self }
     {

@@ -12,6 +12,6 @@ unfolding set_part
 returns c = let a = c.args in
     let v = a.v.now in
     record {
-      filled = rw (add-sub_cancel_left a.at (length v), c.copy_from_slice.ensures.after) (take-set a.at (length v) v a.out.now c.requires refl);
+      filled = rw (add-sub_cancel_left a.at (length v), c.copy.ensures) (take-set a.at (length v) v a.out.now c.requires refl);
       long = search rules;
     }
