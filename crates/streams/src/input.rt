@@ -1,9 +1,11 @@
-// Standard input by way of a buffer of fixed size: its bytes, its lines, and the lines of a script that cannot be played.
+// Standard input by way of a buffer of fixed size: its bytes and its lines.
 ghost use Rattle.std.specs.Prelude.{◌≤◌};
 
-use std::io::{Read, Result, Write};
+pub use crate::refusing::refuse_lines;
+use std::alloc::AllocError;
+use std::io::{self, Read};
 
-const LF: u8 = b'\n';
+pub const LF: u8 = b'\n';
 
 const ROOM: usize = 65536;
 
@@ -20,8 +22,32 @@ pub struct Input<R> {
     ghost in_room: { end ≤ 65536 },
 }
 
+impl<R: Clone> Clone for Input<R> {
+    ghost use Rattle.std.specs.Prelude.{◌≡◌};
+
+    ghost is_clone = { λ x y. R.is_clone x.from y.from × (y.buffer ≡ x.buffer) × (y.at ≡ x.at) × (y.end ≡ x.end) };
+
+    ghost is_infallible = { λ x. R.is_infallible x.from };
+
+    fn clone(&self) -> Result<Self, AllocError> {
+        Ok(Input {
+            from: self.from.clone()?,
+            buffer: self.buffer,
+            at: self.at,
+            end: self.end,
+        })
+    }
+}
+
+impl<R: Copy> Copy for Input<R> {}
+
 impl<R: Read> Input<R> {
-    pub fn new(from: R) -> Self {
+    ghost use Rattle.std.specs.Prelude.{◌≡◌, IfOk};
+    ghost use Rattle.streams.specs.Reading.{unread, TakesByte, TakesLine};
+
+    pub fn new(from: R) -> Self
+        ensures { unread R.remaining result ≡ R.remaining from }
+    {
         Input {
             from,
             buffer: [0; ROOM],
@@ -31,7 +57,9 @@ impl<R: Read> Input<R> {
     }
 
     // The next byte; None at the end of the input.
-    fn next(&mut self) -> Result<Option<u8>> {
+    pub fn next(&mut self) -> io::Result<Option<u8>>
+        ensures { IfOk result (λ byte. TakesByte (unread R.remaining self.old) (unread R.remaining self.new) byte) }
+    {
         if self.end <= self.at {
             let end = self.from.read(&mut self.buffer)?;
             self.end = end;
@@ -46,8 +74,9 @@ impl<R: Read> Input<R> {
     }
 
     // The bytes of the next line, each given to the closure; whether there was a line, which may end with the input.
-    pub fn line<F: FnMut(u8)>(&mut self, mut take: F) -> Result<bool>
+    pub fn line<F: FnMut(u8)>(&mut self, mut take: F) -> io::Result<bool>
         requires { F.IsAlwaysCallable take }
+        ensures { IfOk result (λ is_line. TakesLine (unread R.remaining self.old) (unread R.remaining self.new) is_line) }
     {
         let mut is_begun = false;
         for _ in 0..TURNS {
@@ -62,15 +91,4 @@ impl<R: Read> Input<R> {
         }
         Ok(false)
     }
-}
-
-// The sizes are outside the limits: each line is refused.
-pub fn refuse_lines<R: Read, W: Write>(input: &mut Input<R>, out: &mut W) -> Result<()> {
-    for _ in 0..TURNS {
-        if !input.line(|_| ())? {
-            return out.flush();
-        }
-        write!(out, "1 -\n")?;
-    }
-    Ok(())
 }

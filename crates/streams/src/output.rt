@@ -1,5 +1,5 @@
 // Standard output by way of a buffer of fixed size, and what the programs print by it.
-ghost use Rattle.std.specs.Prelude.{◌≤◌};
+ghost use Rattle.std.specs.Prelude.{◌≡◌, ◌+◌, ◌≤◌, cond, ltb};
 
 use std::cmp::min;
 use std::io::{Result, Write};
@@ -48,6 +48,7 @@ impl<W: Write> Write for Output<W> {
 // A hexadecimal digit, a capital.
 pub fn hexadecimal(digit: u8) -> u8
     requires { digit ≤ 15 }
+    ensures { result ≡ cond (ltb digit 10) (48 + digit) (55 + digit) }
 {
     if digit < 10 {
         b'0' + digit

@@ -1,5 +1,6 @@
 // The lines of a script, one after the other, on the volume's tables.
-ghost use Rattle.std.specs.Prelude.{◌≡◌, length, min, OnErr};
+ghost use Rattle.std.specs.Prelude.{◌≡◌, length, min, OnOk, OnErr};
+ghost use Rattle.streams.specs.Reading.{unread, Ended};
 ghost use Rattle.volumeplay.specs.Asking.{AnswersPart, CallsPart};
 
 use crate::next_line::take_line;
@@ -64,7 +65,7 @@ fn read_part(
     volumeshelf::read_answer(&nodes[..nodes_to], &clients[..clients_to], read)
 }
 
-// All lines, from fresh records on. A read or a write that fails ends it, with that error alone.
+// All lines, from fresh records on, to the end of the input. A read or a write that fails ends it, with that error alone.
 pub fn play<R: Read, W: Write>(
     input: &mut Input<R>,
     out: &mut W,
@@ -74,6 +75,7 @@ pub fn play<R: Read, W: Write>(
     differences: &mut [u8],
     value: &mut [u8],
 ) -> Result<()>
+    ensures ended { OnOk result (Ended (unread R.remaining input.old) (unread R.remaining input.new)) }
     ensures err { OnErr result ((length blocks.new ≡ length blocks.old) × (length spare.new ≡ length spare.old)
         × (length differences.new ≡ length differences.old) × (length value.new ≡ length value.old)) }
 {
