@@ -38,6 +38,25 @@ impl<W: Write> Write for Output<W> {
         Ok(count)
     }
 
+    // What fits goes in at once; else each turn takes what there is room for, a byte at least.
+    fn write_all(&mut self, buf: &[u8]) -> Result<()> {
+        if buf.len() <= ROOM - self.held {
+            let end = self.held + buf.len();
+            self.buffer[self.held..end].copy_from_slice(buf);
+            self.held = end;
+            return Ok(());
+        }
+        let mut rest = buf;
+        for _ in 0..buf.len() {
+            if rest.is_empty() {
+                break;
+            }
+            let count = self.write(rest)?;
+            rest = &rest[count..];
+        }
+        Ok(())
+    }
+
     fn flush(&mut self) -> Result<()> {
         self.to.write_all(&self.buffer[..self.held])?;
         self.held = 0;
@@ -57,10 +76,20 @@ pub fn hexadecimal(digit: u8) -> u8
     }
 }
 
+// How many bytes become digits at a time.
+const CHUNK: usize = 32;
+
 // Two hexadecimal digits for each byte.
 pub fn put_bytes<W: Write>(out: &mut W, bytes: &[u8]) -> Result<()> {
-    for byte in bytes {
-        out.write_all(&[hexadecimal(byte / 16), hexadecimal(byte % 16)])?;
+    let mut digits = [0u8; 2 * CHUNK];
+    for chunk in bytes.chunks(CHUNK) {
+        // (No chunk is longer; a minimum is what the check sees.)
+        let count = min(chunk.len(), CHUNK);
+        for i in 0..count {
+            digits[2 * i] = hexadecimal(chunk[i] / 16);
+            digits[2 * i + 1] = hexadecimal(chunk[i] % 16);
+        }
+        out.write_all(&digits[..2 * count])?;
     }
     Ok(())
 }
