@@ -2,7 +2,7 @@
 use mathlib.Core.Bool.{Bool, true, ◌&&◌}
 use mathlib.Core.List.{List, [], ◌∷◌, ◌++◌}
 use mathlib.Core.Path.{◌≡◌, refl, sym, ap, subst, ◌∙◌}
-use Prim.Native.Nat.{ℕ, suc, min, ◌-◌, ◌*◌, ◌≤◌, ◌<◌}
+use Prim.Native.Nat.{ℕ, suc, ◌*◌, ◌≤◌, ◌<◌}
 use native.Mathlib.Decide.{dec_le, dec_lt}
 use native.Mathlib.Omega.{arith}
 use lib.Dec.{leb}
@@ -21,7 +21,6 @@ use Rattle.limits.proofs.Limits.{code-sizes}
 use Rattle.layout.specs.Layout.{home_of, position_of, stripe_of}
 use Rattle.machine.specs.Calls as Machine
 use Rattle.machine.specs.Stripe.{guard}
-use Rattle.parts.specs.Inside.{cut}
 use Rattle.records.specs.declared.Sizes as records
 use Rattle.records.specs.Sizes.{sizes_within}
 use Rattle.records.specs.View.{client_of, node_of}
@@ -119,20 +118,17 @@ module _ (v : Volume) (t : Lent) (value : List ℕ) (within : volume_within v �
   all : length u.stripes * v.z.b < length value
   all = subst (λ (n : ℕ). n * v.z.b < length value) (sym (stripe-count v t)) card
 
-  -- what a turn is lent of it
+  -- what the call of a line is lent of it: the bytes of `CallsPart`
   abbrev given : ℕ → List ℕ
-  given n = cut 0 (min n (length value)) value
+  given n = take n value
 
   on-bytes : (s : ℕ) (call : StepCall) (n : ℕ) → volume_step v.z (on s (step_of call (given n))) u ≡ volume_step v.z (on s (step_of call (kept n value))) u
   on-bytes s call n = by (dec_le n (length value))
     where
       by : Dec (n ≤ length value) → volume_step v.z (on s (step_of call (given n))) u ≡ volume_step v.z (on s (step_of call (kept n value))) u
-      by (yes h) =
-          let least : min n (length value) - 0 ≡ n = omega (arith, h) in
-          ap (λ (bytes : List ℕ). volume_step v.z (on s (step_of call bytes)) u)
-          (ap (λ (m : ℕ). take m value) least ∙ sym (take-append-le n value (0 ∷ []) h))
+      by (yes h) = ap (λ (bytes : List ℕ). volume_step v.z (on s (step_of call bytes)) u) (sym (take-append-le n value (0 ∷ []) h))
       by (no h) =
-          let long : length (given n) ≡ length value = length-take (min n (length value) - 0) value ∙ omega (arith, h) in
+          let long : length (given n) ≡ length value = length-take n value ∙ omega (arith, h) in
           let more : length value < length (kept n value) = omega (arith, h, length-take n (value ++ 0 ∷ []), length-append value (0 ∷ [])) in
           too_long v.z u (given n) (kept n value) (omega (arith, long, block)) (omega (arith, long, all)) (omega (arith, more, block))
           (omega (arith, more, all)) s call

@@ -1,11 +1,11 @@
 -- The first elements of a table, as many as a volume has, or all. Assumes nothing.
 --     called       what a call on them leaves is what `CallsPart` says
 use mathlib.Core.List.{List, [], ◌++◌, append-nil}
-use mathlib.Core.Path.{◌≡◌, refl, sym, ap, ◌∙◌, transport}
+use mathlib.Core.Path.{◌≡◌, sym, ap, ◌∙◌, transport}
 use Prim.Native.Nat.{ℕ, min, ◌≤◌}
 use native.Mathlib.Decide.{dec_le}
 use native.Mathlib.Omega.{arith}
-use lib.ListN.{length, take, drop, drop_of_length-le, length-append, length-take}
+use lib.ListN.{length, take, drop, drop_of_length-le, length-append, length-drop, length-take}
 use lib.Seq.{take_all, take_at, drop_at}
 use Rattle.calls.specs.declared.Answer.{Answer}
 use Rattle.records.specs.declared.ClientRecord.{ClientRecord}
@@ -39,6 +39,9 @@ module _ {X : Type 0} (n k : ℕ) (xs : List X) (is : k ≡ min n (length xs)) w
             let none_after : drop k xs ≡ [] = drop_of_length-le xs (omega (arith, is, h)) in
             ap (λ (r : List X). take n (ys ++ r)) none_after ∙ ap (λ (r : List X). take n r) (append-nil ys) ∙ take_all n ys few
 
+    pub long : length (ys ++ drop k xs) ≡ length xs
+    long = omega (arith, length-append ys (drop k xs), length-drop k xs, len, length-take k xs, is)
+
     pub rest : drop n (ys ++ drop k xs) ≡ drop n xs
     rest = by (dec_le n (length xs))
       where
@@ -56,9 +59,10 @@ module _ (nodes : List NodeRecord) (clients : List ClientRecord) (blocks spare d
     (k-is : k ≡ min (lengths_of v).nodes (length nodes)) (m-is : m ≡ min (lengths_of v).clients (length clients)) (t-is : t ≡ min (count_in line) (length value)) where
   pub called : (q : Request) → q ≡ call_in line v → (answer : Answer) (ns : List NodeRecord) (cs : List ClientRecord) (bs ss ds : List ℕ)
       → length ns ≡ length (take k nodes) → length cs ≡ length (take m clients)
+      → length bs ≡ length blocks → length ss ≡ length spare → length ds ≡ length differences
       → CallsVolume (take k nodes) (take m clients) blocks spare differences (take t value) q answer ns cs bs ss ds
       → CallsPart nodes clients blocks spare differences value v line answer (ns ++ drop k nodes) (cs ++ drop m clients) bs ss ds
-  called q q-is answer ns cs bs ss ds n-long c-long said =
+  called q q-is answer ns cs bs ss ds n-long c-long b-long s-long d-long said =
       let n = (lengths_of v).nodes in
       let c = (lengths_of v).clients in
       record {
@@ -67,4 +71,5 @@ module _ (nodes : List NodeRecord) (clients : List ClientRecord) (blocks spare d
             (sym (placed n k nodes k-is ns n-long) i) (sym (placed c m clients m-is cs c-long) i) bs ss ds) said;
         nodes_after = rest n k nodes k-is ns n-long;
         clients_after = rest c m clients m-is cs c-long;
+        lengths = (long n k nodes k-is ns n-long, (long c m clients m-is cs c-long, (b-long, (s-long, d-long))));
       }

@@ -23,13 +23,15 @@ nodes_part v nodes = take (lengths_of v).nodes nodes
 abbrev pub clients_part : Volume → List ClientRecord → List ClientRecord
 clients_part v clients = take (lengths_of v).clients clients
 
--- the call is volumeshelf's on these parts, and the records after them are as they were
+-- the call is volumeshelf's on these parts, the records after them are as they were, and each table has its length
 pub record CallsPart (nodes : List NodeRecord) (clients : List ClientRecord) (blocks spare differences value : List ℕ) (v : Volume) (line : VolumeLine)
     (answer : Answer) (nodes' : List NodeRecord) (clients' : List ClientRecord) (blocks' spare' differences' : List ℕ) : Type 0 where
   pub called : CallsVolume (nodes_part v nodes) (clients_part v clients) blocks spare differences (take (count_in line) value) (call_in line v) answer
       (nodes_part v nodes') (clients_part v clients') blocks' spare' differences'
   pub nodes_after : drop (lengths_of v).nodes nodes' ≡ drop (lengths_of v).nodes nodes
   pub clients_after : drop (lengths_of v).clients clients' ≡ drop (lengths_of v).clients clients
+  pub lengths : (length nodes' ≡ length nodes) × ((length clients' ≡ length clients) × ((length blocks' ≡ length blocks)
+      × ((length spare' ≡ length spare) × (length differences' ≡ length differences))))
 
 -- and so is what the read is answered
 abbrev pub AnswersPart : List NodeRecord → List ClientRecord → Volume → VolumeLine → Answer → Type 0

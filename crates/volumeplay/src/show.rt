@@ -1,29 +1,21 @@
 // What is printed of a line: `ANSWER RETURNED`, or `0 STATE`.
 ghost use Rattle.std.specs.Prelude.{◌≡◌, ◌≤◌, length};
 
-use crate::stripes::records_in;
+use crate::stripes::{clients_shown, nodes_shown};
 use answers::put_answer;
 use blocks::block_of;
 use calls::Answer;
 use format::state::put_state;
 use records::{ClientRecord, NodeRecord, Source};
 use std::io::{Result, Write};
-use step::Clients;
-use stripe::Nodes;
 use tables::{Volume, stripe_part, table_blocks, table_differences};
 use volumescript::reader::VolumeLine;
 
-// The clients of stripe s.
-fn clients_of(clients: &[ClientRecord], volume: Volume, s: usize) -> Clients {
-    Clients {
-        items: records_in(clients, s, volume.z.m, ClientRecord::fresh()),
-    }
-}
-
-// Stripe s, if there is one.
+// Stripe s, which the line shows, if there is one.
 fn put_stripe<W: Write>(
     out: &mut W,
     volume: Volume,
+    line: VolumeLine,
     s: usize,
     nodes: &[NodeRecord],
     clients: &[ClientRecord],
@@ -44,10 +36,8 @@ fn put_stripe<W: Write>(
     if blocks.len() != table_blocks(z) {
         return write!(out, "1 -\n");
     }
-    let nodes = Nodes {
-        items: records_in(nodes, s, z.n, NodeRecord::fresh()),
-    };
-    let clients = clients_of(clients, volume, s);
+    let nodes = nodes_shown(nodes, volume, line);
+    let clients = clients_shown(clients, volume, line);
     write!(out, "0 ")?;
     put_state(out, z, nodes, clients, blocks, spare, differences)
 }
@@ -68,13 +58,9 @@ fn put_given<W: Write>(
     let read = line.read(volume);
     let own = stripe_part(table, read.stripe, table_blocks(z));
     let shown = block_of(own, z.b, read.i as usize);
-    match line.pick() {
-        Some((s, c)) => {
-            let clients = clients_of(clients, volume, s);
-            put_answer(out, z.m, Some(c), answer, clients, shown)?
-        }
-        None => put_answer(out, z.m, None, answer, Clients::fresh(), shown)?,
-    }
+    let picker = line.pick().map(|(_, c)| c);
+    let clients = clients_shown(clients, volume, line);
+    put_answer(out, z.m, picker, answer, clients, shown)?;
     write!(out, "\n")
 }
 
@@ -91,7 +77,17 @@ pub(crate) fn put_line<W: Write>(
     differences: &[u8],
 ) -> Result<()> {
     if let VolumeLine::Show(s) = line {
-        return put_stripe(out, volume, s, nodes, clients, blocks, spare, differences);
+        return put_stripe(
+            out,
+            volume,
+            line,
+            s,
+            nodes,
+            clients,
+            blocks,
+            spare,
+            differences,
+        );
     }
     match answer {
         Answer::Shown(Source::Spare) => put_given(out, volume, line, answer, clients, spare),

@@ -14,4 +14,5 @@ returns c =
     (c.least-clients_to.ensures ∙ ap (λ (l : Lengths). min l.clients (length a.clients.now)) lengths)
     (c.least-value_to.ensures ∙ ap (λ (n : ℕ). min n (length a.value.now)) c.count.ensures)
     c.call.result c.call.ensures c.call-2.result c.call-2.new.nodes c.call-2.new.clients c.call-2.new.blocks c.call-2.new.spare c.call-2.new.differences
-    c.call-2.auto.nodes c.call-2.auto.clients c.call-2.ensures
+    c.call-2.auto.nodes c.call-2.auto.clients c.call-2.auto.blocks c.call-2.auto.spare c.call-2.auto.differences
+    c.call-2.ensures

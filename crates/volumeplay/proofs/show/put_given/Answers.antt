@@ -5,6 +5,3 @@ use Rattle.volumeplay.proofs.show.put_given.Goals as goal
 
 pub put_answer-requires : goal.put_answer-requires
 put_answer-requires g c = clients-few c.args.volume.z (sym c.within.ensures ∙ c.if-not-within.false)
-
-pub put_answer-requires-in-None : goal.put_answer-requires-in-None
-put_answer-requires-in-None g c = clients-few c.args.volume.z (sym c.within.ensures ∙ c.if-not-within.false)
