@@ -1,5 +1,6 @@
 -- The first elements of a table, as many as a volume has, or all. Assumes nothing.
---     called       what a call on them leaves is what `CallsPart` says
+--     called        what a call on them leaves is what `CallsOnParts` says
+--     called-long   and where the bytes keep their lengths too, it is what `CallsPart` says
 use mathlib.Core.List.{List, [], ◌++◌, append-nil}
 use mathlib.Core.Path.{◌≡◌, sym, ap, ◌∙◌, transport}
 use Prim.Native.Nat.{ℕ, min, ◌≤◌}
@@ -16,7 +17,7 @@ use Rattle.tables.specs.Parts.{lengths_of}
 use Rattle.volumescript.specs.declared.reader.VolumeLine.{VolumeLine}
 use Rattle.volumescript.specs.Asking.{call_in, count_in}
 use Rattle.volumeshelf.specs.Volumes.{CallsVolume}
-use Rattle.volumeplay.specs.Asking.{CallsPart}
+use Rattle.volumeplay.specs.Asking.{CallsPart, clients_part, nodes_part}
 
 -- n elements of xs, or all: k are there
 module _ {X : Type 0} (n k : ℕ) (xs : List X) (is : k ≡ min n (length xs)) where
@@ -55,14 +56,21 @@ module _ {X : Type 0} (n k : ℕ) (xs : List X) (is : k ≡ min n (length xs)) w
             ap (λ (r : List X). drop n (ys ++ r)) none_after ∙ ap (λ (r : List X). drop n r) (append-nil ys) ∙ drop_of_length-le ys few
             ∙ sym (drop_of_length-le xs (omega (arith, h)))
 
+-- `CallsPart` but for the lengths: the call is volumeshelf's on the parts, and the records after them are as they were
+pub record CallsOnParts (nodes : List NodeRecord) (clients : List ClientRecord) (blocks spare differences value : List ℕ) (v : Volume) (line : VolumeLine)
+    (answer : Answer) (nodes' : List NodeRecord) (clients' : List ClientRecord) (blocks' spare' differences' : List ℕ) : Type 0 where
+  pub called : CallsVolume (nodes_part v nodes) (clients_part v clients) blocks spare differences (take (count_in line) value) (call_in line v) answer
+      (nodes_part v nodes') (clients_part v clients') blocks' spare' differences'
+  pub nodes_after : drop (lengths_of v).nodes nodes' ≡ drop (lengths_of v).nodes nodes
+  pub clients_after : drop (lengths_of v).clients clients' ≡ drop (lengths_of v).clients clients
+
 module _ (nodes : List NodeRecord) (clients : List ClientRecord) (blocks spare differences value : List ℕ) (v : Volume) (line : VolumeLine) (k m t : ℕ)
     (k-is : k ≡ min (lengths_of v).nodes (length nodes)) (m-is : m ≡ min (lengths_of v).clients (length clients)) (t-is : t ≡ min (count_in line) (length value)) where
   pub called : (q : Request) → q ≡ call_in line v → (answer : Answer) (ns : List NodeRecord) (cs : List ClientRecord) (bs ss ds : List ℕ)
       → length ns ≡ length (take k nodes) → length cs ≡ length (take m clients)
-      → length bs ≡ length blocks → length ss ≡ length spare → length ds ≡ length differences
       → CallsVolume (take k nodes) (take m clients) blocks spare differences (take t value) q answer ns cs bs ss ds
-      → CallsPart nodes clients blocks spare differences value v line answer (ns ++ drop k nodes) (cs ++ drop m clients) bs ss ds
-  called q q-is answer ns cs bs ss ds n-long c-long b-long s-long d-long said =
+      → CallsOnParts nodes clients blocks spare differences value v line answer (ns ++ drop k nodes) (cs ++ drop m clients) bs ss ds
+  called q q-is answer ns cs bs ss ds n-long c-long said =
       let n = (lengths_of v).nodes in
       let c = (lengths_of v).clients in
       record {
@@ -71,5 +79,18 @@ module _ (nodes : List NodeRecord) (clients : List ClientRecord) (blocks spare d
             (sym (placed n k nodes k-is ns n-long) i) (sym (placed c m clients m-is cs c-long) i) bs ss ds) said;
         nodes_after = rest n k nodes k-is ns n-long;
         clients_after = rest c m clients m-is cs c-long;
-        lengths = (long n k nodes k-is ns n-long, (long c m clients m-is cs c-long, (b-long, (s-long, d-long))));
+      }
+
+  pub called-long : (q : Request) → q ≡ call_in line v → (answer : Answer) (ns : List NodeRecord) (cs : List ClientRecord) (bs ss ds : List ℕ)
+      → length ns ≡ length (take k nodes) → length cs ≡ length (take m clients)
+      → length bs ≡ length blocks → length ss ≡ length spare → length ds ≡ length differences
+      → CallsVolume (take k nodes) (take m clients) blocks spare differences (take t value) q answer ns cs bs ss ds
+      → CallsPart nodes clients blocks spare differences value v line answer (ns ++ drop k nodes) (cs ++ drop m clients) bs ss ds
+  called-long q q-is answer ns cs bs ss ds n-long c-long b-long s-long d-long said =
+      let on = called q q-is answer ns cs bs ss ds n-long c-long said in
+      record {
+        called = on.called;
+        nodes_after = on.nodes_after;
+        clients_after = on.clients_after;
+        lengths = (long (lengths_of v).nodes k nodes k-is ns n-long, (long (lengths_of v).clients m clients m-is cs c-long, (b-long, (s-long, d-long))));
       }

@@ -1,14 +1,14 @@
 -- What volumeshelf's call says of what is lent, said of the tables.
 use Rattle.std.proofs.Common.{ℕ, min, length, ap, ◌∙◌}
 use Rattle.tables.specs.declared.Lengths.{Lengths}
-use Rattle.volumeplay.proofs.Parts.{called}
+use Rattle.volumeplay.proofs.Parts.{called-long}
 use Rattle.volumeplay.proofs.entry.call_part.Goals as goal
 
 pub returns : goal.returns
 returns c =
     let a = c.args in
     let lengths = c.lengths-lengths.ensures in
-    called a.nodes.now a.clients.now a.blocks.now a.spare.now a.differences.now a.value.now a.volume a.line
+    called-long a.nodes.now a.clients.now a.blocks.now a.spare.now a.differences.now a.value.now a.volume a.line
     c.least-nodes_to.result c.least-clients_to.result c.least-value_to.result
     (c.least-nodes_to.ensures ∙ ap (λ (l : Lengths). min l.nodes (length a.nodes.now)) lengths)
     (c.least-clients_to.ensures ∙ ap (λ (l : Lengths). min l.clients (length a.clients.now)) lengths)
